@@ -1,0 +1,85 @@
+//! Texts as bytes: paths, symbol names, section names, and whole files. Contracts see both types as
+//! the list of their bytes, so two of them are equal exactly where their bytes are.
+
+ghost use Rattle.std.specs.Prelude.{◌≡◌, ℕ, List, IfOk};
+ghost use Rattle.std.specs.Str.{bytes_eq};
+ghost use Rattle.std.specs.Cmp.{partial_equiv_from_equiv};
+ghost use Rattle.std.specs.Cmp.Lexicographic.{nat_list_eq_equiv};
+
+use crate::memory::{NoMemory, TryCopy};
+use std::alloc::Global;
+use std::marker::Model;
+
+/// A name or a path: bytes without a closing zero. Any bytes are a `Name`; whether they are a good
+/// path or symbol is told where they are used.
+#[derive(Drop, Debug)]
+pub struct Name {
+    bytes: Vec<u8>,
+}
+
+impl Model for Name {
+    ghost Value = { List ℕ };
+
+    ghost view = { λ n. n.bytes.items };
+}
+
+impl Name {
+    /// The name of these bytes.
+    pub fn from_vec(bytes: Vec<u8>) -> Self
+        ensures { result ≡ bytes.items }
+    {
+        Name { bytes }
+    }
+
+    /// The name of a copy of these bytes.
+    pub fn from_slice(alloc: Global, bytes: &[u8]) -> Result<Self, NoMemory>
+        ensures { IfOk result (λ n. n ≡ bytes.now) }
+    {
+        match Vec::from_slice(alloc, bytes) {
+            Ok(bytes) => Ok(Name { bytes }),
+            Err(_) => Err(NoMemory),
+        }
+    }
+
+    /// The bytes, given back without taking memory.
+    pub fn into_vec(self) -> Vec<u8>
+        ensures { result.items ≡ self }
+    {
+        let Name { bytes } = self;
+        bytes
+    }
+
+    /// The bytes.
+    pub fn as_slice(&self) -> &[u8]
+        ensures { result.now ≡ self.now }
+    {
+        self.bytes.as_slice()
+    }
+
+    /// An equal name.
+    pub fn copy(&self, alloc: Global) -> Result<Self, NoMemory>
+        ensures { IfOk result (λ n. n ≡ self.now) }
+    {
+        Name::from_slice(alloc, self.as_slice())
+    }
+}
+
+impl TryCopy for Name {
+    fn try_copy(&self, alloc: Global) -> Result<Self, NoMemory> {
+        self.copy(alloc)
+    }
+}
+
+impl PartialEq for Name {
+    ghost eq = { bytes_eq };
+
+    ghost laws = { partial_equiv_from_equiv nat_list_eq_equiv };
+
+    fn eq(&self, other: &Self) -> bool {
+        self.bytes.as_slice() == other.bytes.as_slice()
+    }
+}
+
+impl Eq for Name {
+    ghost laws = { nat_list_eq_equiv };
+}
