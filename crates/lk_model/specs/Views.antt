@@ -47,8 +47,8 @@ pub record KeptPiece : Type 0 where
 -- through what a reference goes: a name by its number, with the weak flag of its symbol, or a LOCAL
 -- symbol (or none, symbol 0) of its own input
 pub data Through : Type 0 where
-  pub ByName : (name : ℕ) (weak : Bool) → Through
-  pub ByLocal : (symbol : ℕ) → Through
+  ByName : (name : ℕ) (weak : Bool) → Through
+  ByLocal : (symbol : ℕ) → Through
 
 -- a relocation of a kept piece (gABI "Relocation"): its site, its type, its addend
 pub record Ref : Type 0 where
