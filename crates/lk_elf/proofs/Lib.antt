@@ -1,0 +1,9 @@
+pub mod Widths
+pub mod Slices
+pub mod Signed
+pub mod Writing
+pub mod ShdrBack
+pub mod PhdrBack
+pub mod SymBack
+pub mod RelaBack
+pub mod DynBack
