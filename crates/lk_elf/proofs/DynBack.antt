@@ -1,5 +1,5 @@
 -- What is written of an entry of the dynamic section is read back.
-use Rattle.std.proofs.Common.{◌≡◌, ℕ, ◌+◌, ◌^◌, ◌<◌, List, ◌++◌, length, take, drop, refl, arith, ap, ◌∙◌, w64}
+use Rattle.std.proofs.Common.{◌≡◌, ℕ, ◌+◌, ◌^◌, ◌<◌, List, ◌++◌, length, refl, arith, ap, ◌∙◌, w64}
 use mir.Val.{SFits}
 use Rattle.lk_elf.specs.Fields.{bytes_of, num, signed64, unsigned64}
 use Rattle.lk_elf.specs.Records.{dyn_at, dyn_bytes}

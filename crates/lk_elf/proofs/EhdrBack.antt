@@ -37,9 +37,9 @@ ehdr_at-ehdr_bytes at pre post header len ident-fits e_type-fits e_machine-fits 
     let whole = ident_first pre post header in
     let len' : length (pre ++ header.e_ident) ≡ at + 16 = omega (arith, length-append pre header.e_ident) in
     let e_ident-back : take 16 (drop at ((pre ++ header.e_ident) ++ numbers_bytes header ++ post)) ≡ header.e_ident =
-      ap (λ (bytes : List ℕ). take 16 (drop at bytes)) (append_assoc (pre ++ header.e_ident) (numbers_bytes header) post ∙ append_assoc pre header.e_ident (numbers_bytes header ++ post))
-      ∙ ap (take 16) (drop_at pre (header.e_ident ++ (numbers_bytes header ++ post)) at len)
-      ∙ take_at header.e_ident (numbers_bytes header ++ post) 16 ident-fits in
+    ap (λ (bytes : List ℕ). take 16 (drop at bytes)) (append_assoc (pre ++ header.e_ident) (numbers_bytes header) post ∙ append_assoc pre header.e_ident (numbers_bytes header ++ post))
+    ∙ ap (take 16) (drop_at pre (header.e_ident ++ (numbers_bytes header ++ post)) at len)
+    ∙ take_at header.e_ident (numbers_bytes header ++ post) 16 ident-fits in
     let e_type-back : num ((pre ++ header.e_ident) ++ numbers_bytes header ++ post) (at + 16) 2 ≡ header.e_type = num_back (at + 16) 0 (at + 16) 2 header.e_type (pre ++ header.e_ident) (numbers_bytes header) post len' (omega arith) refl (omega arith) in
     let e_machine-back : num ((pre ++ header.e_ident) ++ numbers_bytes header ++ post) (at + 18) 2 ≡ header.e_machine = num_back (at + 16) 2 (at + 18) 2 header.e_machine (pre ++ header.e_ident) (numbers_bytes header) post len' (omega arith) refl (omega arith) in
     let e_version-back : num ((pre ++ header.e_ident) ++ numbers_bytes header ++ post) (at + 20) 4 ≡ header.e_version = num_back (at + 16) 4 (at + 20) 4 header.e_version (pre ++ header.e_ident) (numbers_bytes header) post len' (omega arith) refl (omega arith) in

@@ -8,3 +8,5 @@ pub mod PhdrBack
 pub mod SymBack
 pub mod RelaBack
 pub mod DynBack
+mod Constants
+mod Examples

@@ -1,5 +1,5 @@
 -- What is written of a program header is read back.
-use Rattle.std.proofs.Common.{◌≡◌, ℕ, ◌+◌, ◌^◌, ◌<◌, List, ◌++◌, length, take, drop, refl, arith}
+use Rattle.std.proofs.Common.{◌≡◌, ℕ, ◌+◌, ◌^◌, ◌<◌, List, ◌++◌, length, refl, arith}
 use Rattle.lk_elf.specs.Fields.{bytes_of, num}
 use Rattle.lk_elf.specs.Records.{phdr_at, phdr_bytes}
 use Rattle.lk_elf.specs.declared.program_header.Phdr.{Phdr}

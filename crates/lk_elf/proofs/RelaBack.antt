@@ -1,5 +1,5 @@
 -- What is written of a relocation with an addend is read back.
-use Rattle.std.proofs.Common.{◌≡◌, ℕ, ◌+◌, ◌^◌, ◌<◌, List, ◌++◌, length, take, drop, refl, arith, ap, ◌∙◌, w64}
+use Rattle.std.proofs.Common.{◌≡◌, ℕ, ◌+◌, ◌^◌, ◌<◌, List, ◌++◌, length, refl, arith, ap, ◌∙◌, w64}
 use mir.Val.{SFits}
 use Rattle.lk_elf.specs.Fields.{bytes_of, num, signed64, unsigned64}
 use Rattle.lk_elf.specs.Records.{rela_at, rela_bytes}

@@ -1,5 +1,5 @@
 -- What is written of a section header is read back.
-use Rattle.std.proofs.Common.{◌≡◌, ℕ, ◌+◌, ◌^◌, ◌<◌, List, ◌++◌, length, take, drop, refl, arith}
+use Rattle.std.proofs.Common.{◌≡◌, ℕ, ◌+◌, ◌^◌, ◌<◌, List, ◌++◌, length, refl, arith}
 use Rattle.lk_elf.specs.Fields.{bytes_of, num}
 use Rattle.lk_elf.specs.Records.{shdr_at, shdr_bytes}
 use Rattle.lk_elf.specs.declared.section_header.Shdr.{Shdr}

@@ -1,5 +1,5 @@
 -- What is written of a symbol is read back.
-use Rattle.std.proofs.Common.{◌≡◌, ℕ, ◌+◌, ◌^◌, ◌<◌, List, ◌++◌, length, take, drop, refl, arith}
+use Rattle.std.proofs.Common.{◌≡◌, ℕ, ◌+◌, ◌^◌, ◌<◌, List, ◌++◌, length, refl, arith}
 use Rattle.lk_elf.specs.Fields.{bytes_of, num}
 use Rattle.lk_elf.specs.Records.{sym_at, sym_bytes}
 use Rattle.lk_elf.specs.declared.symbol.Sym.{Sym}

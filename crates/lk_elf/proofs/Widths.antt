@@ -1,10 +1,10 @@
 -- The numbers of `byteorder` in its little-endian order are the fields of a record, at every width; and what is written is read back.
-use Rattle.std.proofs.Common.{◌≡◌, ℕ, zero, suc, ◌+◌, ◌-◌, ◌*◌, ◌/◌, ◌%◌, ◌^◌, ◌<◌, ◌≤◌, List, [], ◌∷◌, ◌++◌, length, take, drop, refl, sym, ap, ◌∙◌, arith}
-use Rattle.std.proofs.Math.Nat.{div-one, div-div-eq-div-mul, pow-suc, mod-eq_of_lt}
+use Rattle.std.proofs.Common.{◌≡◌, ℕ, zero, suc, ◌/◌, ◌%◌, ◌^◌, ◌≤◌, List, [], ◌∷◌, length, take, refl, sym, ap, ◌∙◌, arith}
+use Rattle.std.proofs.Math.Nat.{div-one, div-div-eq-div-mul, pow-suc}
 use Rattle.std.specs.Int.{byte_at, bytes_low_first}
 use Rattle.byteorder.specs.Endian.{little_from}
-use Rattle.byteorder.specs.Numbers.{little_from-cons, little_from-bytes}
-use Rattle.lk_elf.specs.Fields.{bytes_of, num, number_of}
+use Rattle.byteorder.specs.Numbers.{little_from-cons}
+use Rattle.lk_elf.specs.Fields.{bytes_of, number_of}
 
 -- the number in the first w bytes
 pub little_from-number_of : (w : ℕ) (bytes : List ℕ) → w ≤ length bytes → little_from 0 w bytes ≡ number_of (take w bytes)

@@ -1,4 +1,4 @@
-use Rattle.std.proofs.Common.{◌≡◌, ℕ, ◌+◌, ◌≤◌, ◌<◌, ◌^◌, ◌++◌, ◌∙◌, length, take, drop, List, ap, refl, arith, rules}
+use Rattle.std.proofs.Common.{◌≡◌, ℕ, ◌+◌, ◌<◌, ◌^◌, ◌++◌, ◌∙◌, length, take, drop, List, ap, refl, arith}
 use Rattle.std.proofs.lemmas.List.{length-take-le}
 use Rattle.lk_elf.specs.Records.{ehdr_at, ehdr_bytes}
 use Rattle.lk_elf.proofs.EhdrBack.{ehdr_at-ehdr_bytes}

@@ -1,8 +1,7 @@
-use Rattle.std.proofs.Common.{◌≡◌, ℕ, ◌+◌, ◌≤◌, ◌<◌, ◌^◌, ◌++◌, ◌∙◌, length, take, drop, List, ap, refl, arith}
-use Rattle.lk_elf.specs.Fields.{bytes_of}
+use Rattle.std.proofs.Common.{◌≡◌, ℕ, ◌+◌, ◌<◌, ◌^◌, ◌++◌, ◌∙◌, length, take, drop, List, ap, refl, arith}
 use Rattle.lk_elf.specs.Records.{phdr_at, phdr_bytes}
 use Rattle.lk_elf.proofs.PhdrBack.{phdr_at-phdr_bytes}
-use Rattle.lk_elf.proofs.Writing.{Wrote, first_num, then_num}
+use Rattle.lk_elf.proofs.Writing.{first_num, then_num}
 use Rattle.std.proofs.lemmas.List.{length-take-le}
 use Rattle.lk_elf.proofs.program_header.Phdr.write_at.Goals as goal
 

@@ -1,10 +1,10 @@
-use Rattle.std.proofs.Common.{◌≡◌, ℕ, ◌+◌, ◌≤◌, ◌<◌, ◌^◌, ◌++◌, ◌∙◌, length, take, drop, List, ap, refl, arith, rules, to_z, of_z, w64}
+use Rattle.std.proofs.Common.{◌≡◌, ℕ, ◌+◌, ◌<◌, ◌^◌, ◌++◌, ◌∙◌, length, take, drop, List, ap, refl, arith, rules, to_z, of_z, w64}
 use Rattle.std.proofs.lemmas.Int.{to_z-of_z}
 use mir.Val.{SFits}
-use Rattle.lk_elf.specs.Fields.{bytes_of, unsigned64}
+use Rattle.lk_elf.specs.Fields.{unsigned64}
 use Rattle.lk_elf.specs.Records.{rela_at, rela_bytes}
 use Rattle.lk_elf.proofs.RelaBack.{rela_at-rela_bytes}
-use Rattle.lk_elf.proofs.Writing.{Wrote, first_num, then_num}
+use Rattle.lk_elf.proofs.Writing.{first_num, then_num}
 use Rattle.std.proofs.lemmas.List.{length-take-le}
 use Rattle.lk_elf.proofs.relocation.Rela.write_at.Goals as goal
 

@@ -1,8 +1,7 @@
-use Rattle.std.proofs.Common.{◌≡◌, ℕ, ◌+◌, ◌≤◌, ◌<◌, ◌^◌, ◌++◌, ◌∙◌, length, take, drop, List, ap, refl, arith}
-use Rattle.lk_elf.specs.Fields.{bytes_of}
+use Rattle.std.proofs.Common.{◌≡◌, ℕ, ◌+◌, ◌<◌, ◌^◌, ◌++◌, ◌∙◌, length, take, drop, List, ap, refl, arith}
 use Rattle.lk_elf.specs.Records.{shdr_at, shdr_bytes}
 use Rattle.lk_elf.proofs.ShdrBack.{shdr_at-shdr_bytes}
-use Rattle.lk_elf.proofs.Writing.{Wrote, first_num, then_num}
+use Rattle.lk_elf.proofs.Writing.{first_num, then_num}
 use Rattle.std.proofs.lemmas.List.{length-take-le}
 use Rattle.lk_elf.proofs.section_header.Shdr.write_at.Goals as goal
 

@@ -1,8 +1,7 @@
-use Rattle.std.proofs.Common.{◌≡◌, ℕ, ◌+◌, ◌≤◌, ◌<◌, ◌^◌, ◌++◌, ◌∙◌, length, take, drop, List, ap, refl, arith}
-use Rattle.lk_elf.specs.Fields.{bytes_of}
+use Rattle.std.proofs.Common.{◌≡◌, ℕ, ◌+◌, ◌<◌, ◌^◌, ◌++◌, ◌∙◌, length, take, drop, List, ap, refl, arith}
 use Rattle.lk_elf.specs.Records.{sym_at, sym_bytes}
 use Rattle.lk_elf.proofs.SymBack.{sym_at-sym_bytes}
-use Rattle.lk_elf.proofs.Writing.{Wrote, first_num, then_num}
+use Rattle.lk_elf.proofs.Writing.{first_num, then_num}
 use Rattle.std.proofs.lemmas.List.{length-take-le}
 use Rattle.lk_elf.proofs.symbol.Sym.write_at.Goals as goal
 
