@@ -27,6 +27,7 @@ impl Dyn {
         Ok(Dyn::fields_at(bytes, at))
     }
 
+    #[tactic(auto, unfolding(crate::specs::Records::dyn_at))]
     fn fields_at(bytes: &[u8], at: usize) -> Dyn
         requires { at + 16 ≤ length bytes.now }
         ensures { result ≡ dyn_at bytes.now at }

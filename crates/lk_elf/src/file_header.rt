@@ -51,6 +51,7 @@ impl Ehdr {
         Ok(Ehdr::fields_at(bytes, at))
     }
 
+    #[tactic(auto, unfolding(crate::specs::Records::ehdr_at))]
     fn fields_at(bytes: &[u8], at: usize) -> Ehdr
         requires { at + 64 ≤ length bytes.now }
         ensures { result ≡ ehdr_at bytes.now at }

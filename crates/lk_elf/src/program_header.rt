@@ -39,6 +39,7 @@ impl Phdr {
         Ok(Phdr::fields_at(bytes, at))
     }
 
+    #[tactic(auto, unfolding(crate::specs::Records::phdr_at))]
     fn fields_at(bytes: &[u8], at: usize) -> Phdr
         requires { at + 56 ≤ length bytes.now }
         ensures { result ≡ phdr_at bytes.now at }

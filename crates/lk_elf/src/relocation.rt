@@ -29,6 +29,7 @@ impl Rela {
         Ok(Rela::fields_at(bytes, at))
     }
 
+    #[tactic(auto, unfolding(crate::specs::Records::rela_at))]
     fn fields_at(bytes: &[u8], at: usize) -> Rela
         requires { at + 24 ≤ length bytes.now }
         ensures { result ≡ rela_at bytes.now at }

@@ -43,6 +43,7 @@ impl Shdr {
         Ok(Shdr::fields_at(bytes, at))
     }
 
+    #[tactic(auto, unfolding(crate::specs::Records::shdr_at))]
     fn fields_at(bytes: &[u8], at: usize) -> Shdr
         requires { at + 64 ≤ length bytes.now }
         ensures { result ≡ shdr_at bytes.now at }

@@ -35,6 +35,7 @@ impl Sym {
         Ok(Sym::fields_at(bytes, at))
     }
 
+    #[tactic(auto, unfolding(crate::specs::Records::sym_at))]
     fn fields_at(bytes: &[u8], at: usize) -> Sym
         requires { at + 24 ≤ length bytes.now }
         ensures { result ≡ sym_at bytes.now at }
