@@ -1,2 +1,4 @@
 pub mod Spoken
 pub mod FileMap
+pub mod Texts
+pub mod Exit

@@ -12,6 +12,7 @@
 
 mod causes;
 mod contents;
+mod exits;
 mod faults;
 mod lists;
 mod memory;
