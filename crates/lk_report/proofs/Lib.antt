@@ -1,1 +1,3 @@
+pub mod PartByPart
+pub mod Digits
 mod TextExamples
