@@ -1,9 +1,8 @@
 //! Where everything stands: output sections, pieces, slots, and the parts of a plan.
 
-use lk_report::{Cause, LimitFault, List, Name};
-
 use crate::records::ReferenceList;
 use crate::summaries::NumberList;
+use lk_report::{Cause, LimitFault, List, Name};
 
 /// What an output section holds, which decides its rights and its place.
 #[derive(Clone, Copy, PartialEq, Eq, Debug)]

@@ -1,9 +1,8 @@
 //! What an image records of its link, so that a later link can update it.
 
-use lk_report::{List, Name, OptionRecord, Stamp};
-
 use crate::layouts::Placement;
 use crate::summaries::InputSummary;
+use lk_report::{List, Name, OptionRecord, Stamp};
 
 /// A relocation of a kept piece through a symbol that is not LOCAL.
 #[derive(Clone, Copy, PartialEq, Eq, Debug)]

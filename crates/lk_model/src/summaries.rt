@@ -1,8 +1,7 @@
 //! What a link knows of an input once it was read: its pieces, symbols and groups.
 
-use lk_report::{List, Name};
-
 use crate::layouts::SectionKey;
+use lk_report::{List, Name};
 
 /// What a link keeps of an input, and records in its image.
 #[derive(PartialEq, Eq, Debug, Drop)]

@@ -1,0 +1,38 @@
+-- What is computed as the added inputs meets what they mean.
+use Rattle.std.specs.Prelude.{◌≡◌, refl, ℕ, zero, suc, List, [], ◌∷◌, ◌++◌, flat_map, fold}
+use Rattle.std.proofs.lemmas.List.{append-nil, append_assoc, map-append}
+use mathlib.Core.Path.{sym, ap, ◌∙◌}
+use Rattle.lk_model.specs.Adding.{AddsItem, AddsItems, IsAdded, added_inputs, added_of, is_wanted_member, item_added, items_of, numbers_in, with_item, with_one}
+use Rattle.lk_model.specs.Numbered.{Numbered}
+use Rattle.lk_model.specs.Views.{Input}
+use Rattle.lk_model.proofs.Queues.{listed_of-holds}
+
+-- what each item adds
+parts_of : List ℕ → List Numbered → List (ℕ × List Numbered) → List (List Numbered)
+parts_of entry added [] = []
+parts_of entry added (item ∷ items) = item_added entry added item ∷ parts_of entry (with_item entry added item) items
+
+item_added-holds : (entry : List ℕ) (added : List Numbered) (item : ℕ × List Numbered) → AddsItem entry added item (item_added entry added item)
+item_added-holds entry added (zero, members) = refl
+item_added-holds entry added (suc n, members) = listed_of-holds (is_wanted_member entry) with_one added members
+
+parts_of-holds : (entry : List ℕ) (added : List Numbered) (items : List (ℕ × List Numbered)) → AddsItems entry added items (parts_of entry added items)
+unfolding parts_of
+parts_of-holds entry added [] = tt
+parts_of-holds entry added (item ∷ items) = (item_added-holds entry added item, parts_of-holds entry (with_item entry added item) items)
+
+-- the added inputs are the parts in a row
+parts_of-row : (entry : List ℕ) (added : List Numbered) (items : List (ℕ × List Numbered)) → numbers_in (fold (with_item entry) added items) ≡ numbers_in added ++ flat_map numbers_in (parts_of entry added items)
+unfolding parts_of
+parts_of-row entry added [] = sym (append-nil (numbers_in added))
+parts_of-row entry added (item ∷ items) =
+    let new : List Numbered = item_added entry added item in
+    let rest : List ℕ = flat_map numbers_in (parts_of entry (with_item entry added item) items) in
+    let later : numbers_in (fold (with_item entry) (with_item entry added item) items) ≡ numbers_in (added ++ new) ++ rest = parts_of-row entry (with_item entry added item) items in
+    let split : numbers_in (added ++ new) ≡ numbers_in added ++ numbers_in new = map-append (λ (x : Numbered). x.number) added new in
+    later ∙ ap (λ (ns : List ℕ). ns ++ rest) split ∙ append_assoc (numbers_in added) (numbers_in new) rest
+
+-- the list that is computed meets its meaning
+pub added_of-holds : (entry : List ℕ) (inputs : List Input) → IsAdded entry inputs (added_of entry inputs)
+unfolding added_of added_inputs
+added_of-holds entry inputs = (parts_of entry [] (items_of inputs), parts_of-holds entry [] (items_of inputs), parts_of-row entry [] (items_of inputs))
