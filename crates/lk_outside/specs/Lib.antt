@@ -1,2 +1,6 @@
 pub mod Held
 pub mod Disk
+pub mod Counts
+pub mod FilesInMemory
+pub mod DeviceInMemory
+pub mod SinkInMemory

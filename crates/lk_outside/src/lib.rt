@@ -14,11 +14,21 @@
 //! output, which is trusted: they tell nothing and count their failures.
 #![tactic(auto)]
 
+mod calls;
 mod devices;
+mod file_entries;
 mod files;
+mod memory_device;
+mod memory_files;
+mod memory_sink;
 mod turnstiles;
 
+pub use calls::Calls;
 pub use devices::{Device, LengthAnswer};
+pub use file_entries::FileEntry;
 pub use files::{Files, ReadAnswer, StatAnswer};
 pub use lk_report::{Answer, Sink, Stamp};
+pub use memory_device::MemoryDevice;
+pub use memory_files::MemoryFiles;
+pub use memory_sink::MemorySink;
 pub use turnstiles::{FreeTurnstile, Turnstile};
