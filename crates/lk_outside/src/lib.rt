@@ -21,6 +21,9 @@ mod files;
 mod memory_device;
 mod memory_files;
 mod memory_sink;
+mod sure_device;
+mod sure_files;
+mod sure_sink;
 mod turnstiles;
 
 pub use calls::Calls;
@@ -31,4 +34,7 @@ pub use lk_report::{Answer, Sink, Stamp};
 pub use memory_device::MemoryDevice;
 pub use memory_files::MemoryFiles;
 pub use memory_sink::MemorySink;
+pub use sure_device::SureDevice;
+pub use sure_files::SureFiles;
+pub use sure_sink::SureSink;
 pub use turnstiles::{FreeTurnstile, Turnstile};
