@@ -4,3 +4,4 @@ pub mod Counts
 pub mod FilesInMemory
 pub mod DeviceInMemory
 pub mod SinkInMemory
+pub mod Host

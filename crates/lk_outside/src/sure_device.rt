@@ -23,13 +23,11 @@ impl Model for SureDevice {
 
     ghost Value = { SureDeviceInMemory };
 
-    ghost view = {
-        λ s. record {
-            bytes = s.device.bytes;
-            written = s.device.written;
-            faults = s.device.calls.faults
-        }
-    };
+    ghost view = { λ s. record {
+      bytes = s.device.bytes;
+      written = s.device.written;
+      faults = s.device.calls.faults;
+    } };
 
     ghost invariant = { λ s. s.device.calls.failing ≡ None };
 }
@@ -64,9 +62,7 @@ impl Device for SureDevice {
 
     fn read_at(&mut self, at: u64, into: &mut [u8]) -> Answer
         requires { at + list_length into.old ≤ list_length self.old.bytes }
-        ensures meets {
-            ReadAtGives (sure_disk_of self.old) at into.old into.new result (sure_disk_of self.new)
-        }
+        ensures meets { ReadAtGives (sure_disk_of self.old) at into.old into.new result (sure_disk_of self.new) }
         ensures exactly { SureReadAt self.old at into.old into.new result self.new }
     {
         self.device.read_at(at, into)
@@ -74,9 +70,7 @@ impl Device for SureDevice {
 
     fn write_at(&mut self, at: u64, bytes: &[u8]) -> Answer
         requires { at ≤ list_length self.old.bytes }
-        ensures meets {
-            WriteAtGives (sure_disk_of self.old) at bytes.now result (sure_disk_of self.new)
-        }
+        ensures meets { WriteAtGives (sure_disk_of self.old) at bytes.now result (sure_disk_of self.new) }
         ensures exactly { SureWriteAt self.old at bytes.now result self.new }
     {
         self.device.write_at(at, bytes)

@@ -22,14 +22,12 @@ impl Model for SureFiles {
 
     ghost Value = { SureFilesInMemory };
 
-    ghost view = {
-        λ s. record {
-            entries = s.files.entries;
-            stats = s.files.stats;
-            reads = s.files.reads;
-            misses = s.files.misses
-        }
-    };
+    ghost view = { λ s. record {
+      entries = s.files.entries;
+      stats = s.files.stats;
+      reads = s.files.reads;
+      misses = s.files.misses;
+    } };
 
     ghost invariant = { λ s. s.files.calls.failing ≡ None };
 }
@@ -47,10 +45,8 @@ impl SureFiles {
     /// Sets a path's bytes and stamp, in place of an earlier file of this path. Unchanged after want
     /// of memory.
     pub fn put(&mut self, path: &str, bytes: Bytes, stamp: Option<Stamp>) -> Result<(), NoMemory>
-        ensures set {
-            OnOk result (SetsRow self.old.entries self.new.entries path.now
-                (record { bytes = bytes; stamp = stamp }))
-        }
+        ensures set { OnOk result (SetsRow self.old.entries self.new.entries path.now
+            (record { bytes = bytes; stamp = stamp })) }
         ensures rest { self.new ≡ record self.old { entries = self.new.entries } }
         ensures unchanged { OnErr result (self.new ≡ self.old) }
     {
