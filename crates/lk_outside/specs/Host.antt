@@ -1,0 +1,18 @@
+-- This project's own: what the host's objects tell, which is their counts alone.
+use Rattle.std.specs.Prelude.{ℕ, ℤ, pos, ◌*ℤ◌, ◌+ℤ◌, None}
+use Rattle.lk_report.specs.Spoken.{Spoken}
+use Rattle.lk_outside.specs.Held.{Held}
+use Rattle.lk_outside.specs.Disk.{Disk}
+
+abbrev pub untold_held : ℕ → ℕ → Held
+untold_held faults misses = record { known = None; faults = faults; misses = misses }
+
+abbrev pub untold_disk : ℕ → Disk
+untold_disk faults = record { stored = None; faults = faults }
+
+abbrev pub untold_spoken : ℕ → Spoken
+untold_spoken faults = record { said = None; faults = faults }
+
+-- the nanoseconds since 1970 of a time given in seconds and nanoseconds
+abbrev pub nanoseconds : ℤ → ℤ → ℤ
+nanoseconds seconds nanos = (seconds *ℤ pos 1000000000) +ℤ nanos

@@ -1,0 +1,7 @@
+pub mod Held
+pub mod Disk
+pub mod Counts
+pub mod FilesInMemory
+pub mod DeviceInMemory
+pub mod SinkInMemory
+pub mod Host

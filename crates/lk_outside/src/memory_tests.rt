@@ -1,0 +1,209 @@
+//! The objects in memory: each call once, and a failure of each call. A helper has no clauses, so
+//! that a test stays small to prove.
+
+use crate::{
+    Answer, Device, Files, FreeTurnstile, LengthAnswer, MemoryDevice, MemoryFiles, MemorySink,
+    ReadAnswer, Sink, Stamp, StatAnswer, SureDevice, SureFiles, SureSink, Turnstile,
+};
+use lk_report::{Bytes, Name};
+use std::alloc::Global;
+use std::test::Fail;
+
+const STAMP: Stamp = Stamp {
+    length: 3,
+    modified: -7,
+};
+
+fn bytes(alloc: Global, of: &[u8]) -> Result<Bytes, Fail> {
+    Ok(Bytes::from_slice(alloc, of)?)
+}
+
+/// Whether the read got these bytes.
+fn is_got(answer: &ReadAnswer, bytes: &[u8]) -> bool {
+    match answer {
+        ReadAnswer::Got(got) => got.as_slice() == bytes,
+        _ => false,
+    }
+}
+
+/// Whether the file is found with this stamp and read with these bytes.
+fn is_there<F: Files>(files: &mut F, path: &Name, stamp: Option<Stamp>, bytes: &[u8]) -> bool {
+    let found = files.stat(path) == StatAnswer::Found(stamp);
+    let read = is_got(&files.read(path), bytes);
+    found && read
+}
+
+/// Whether no file is found and none is read.
+fn is_absent<F: Files>(files: &mut F, path: &Name) -> bool {
+    let missed = files.stat(path) == StatAnswer::Absent;
+    let unread = matches!(files.read(path), ReadAnswer::Absent);
+    missed && unread
+}
+
+/// Whether the look-up and the read fail.
+fn failures<F: Files>(files: &mut F, path: &Name) -> (bool, bool) {
+    let stat = files.stat(path) == StatAnswer::Failed;
+    let read = matches!(files.read(path), ReadAnswer::Failed);
+    (stat, read)
+}
+
+#[test]
+fn files_in_memory_are_found_and_read(rt: HostRuntime) -> Result<(), Fail> {
+    let alloc = rt.alloc();
+    let mut files = MemoryFiles::new(alloc);
+    let path = Name::from_slice(alloc, b"a.o")?;
+    assert!(rt; is_absent(&mut files, &path));
+    files.put("a.o", bytes(alloc, b"old")?, None)?;
+    assert!(rt; is_there(&mut files, &path, None, b"old"));
+    files.put("b.o", bytes(alloc, b"other")?, None)?;
+    files.put("a.o", bytes(alloc, b"new")?, Some(STAMP))?;
+    assert!(rt; is_there(&mut files, &path, Some(STAMP), b"new"));
+    assert_eq!(rt; files.reads(), 3);
+    Ok(())
+}
+
+#[test]
+fn a_named_call_on_files_fails(rt: HostRuntime) -> Result<(), Fail> {
+    let alloc = rt.alloc();
+    for (n, stat, read) in [(1, true, false), (2, false, true), (3, false, false)] {
+        let mut files = MemoryFiles::new(alloc);
+        let path = Name::from_slice(alloc, b"a.o")?;
+        files.fail_call(n);
+        assert_eq!(rt; failures(&mut files, &path), (stat, read), "call {n}");
+    }
+    Ok(())
+}
+
+#[test]
+fn sure_files_are_found_and_read(rt: HostRuntime) -> Result<(), Fail> {
+    let alloc = rt.alloc();
+    let mut files = SureFiles::new(alloc);
+    let path = Name::from_slice(alloc, b"a.o")?;
+    assert!(rt; is_absent(&mut files, &path));
+    files.put("a.o", bytes(alloc, b"abc")?, Some(STAMP))?;
+    assert!(rt; is_there(&mut files, &path, Some(STAMP), b"abc"));
+    assert_eq!(rt; files.reads(), 2);
+    Ok(())
+}
+
+fn write(device: &mut MemoryDevice, at: u64, bytes: &[u8]) -> Answer {
+    if at > device.bytes().len() as u64 {
+        return Answer::Failed;
+    }
+    device.write_at(at, bytes)
+}
+
+fn cut(device: &mut MemoryDevice, length: u64) -> Answer {
+    if length > device.bytes().len() as u64 {
+        return Answer::Failed;
+    }
+    device.cut(length)
+}
+
+/// The first byte.
+fn first(device: &mut MemoryDevice) -> Option<u8> {
+    if device.bytes().is_empty() {
+        return None;
+    }
+    let mut into = [0u8];
+    match device.read_at(0, &mut into) {
+        Answer::Done => Some(into[0]),
+        Answer::Failed => None,
+    }
+}
+
+/// Which of the five calls were done, on a device that begins with `a`.
+fn calls_done(device: &mut MemoryDevice) -> [bool; 5] {
+    let length = device.length() != LengthAnswer::Failed;
+    let read = first(device) == Some(b'a');
+    let written = write(device, 0, b"x") == Answer::Done;
+    let synced = device.sync() == Answer::Done;
+    let cut = cut(device, 1) == Answer::Done;
+    [length, read, written, synced, cut]
+}
+
+#[test]
+fn a_device_in_memory_takes_writes_and_cuts(rt: HostRuntime) -> Result<(), Fail> {
+    let alloc = rt.alloc();
+    let mut device = MemoryDevice::of(alloc, bytes(alloc, b"abcdef")?);
+    for (at, text, after) in [
+        (1, b"XY".as_slice(), b"aXYdef".as_slice()),
+        (5, b"+--".as_slice(), b"aXYde+--".as_slice()),
+        (8, b"!".as_slice(), b"aXYde+--!".as_slice()),
+    ] {
+        assert_eq!(rt; write(&mut device, at, text), Answer::Done);
+        assert_eq!(rt; device.bytes(), after);
+    }
+    assert_eq!(rt; calls_done(&mut device), [true; 5]);
+    assert_eq!(rt; device.bytes(), b"x".as_slice());
+    Ok(())
+}
+
+#[test]
+fn a_named_call_on_a_device_fails(rt: HostRuntime) -> Result<(), Fail> {
+    let alloc = rt.alloc();
+    for (n, after) in [
+        (1, b"x".as_slice()),
+        (2, b"x".as_slice()),
+        (3, b"a".as_slice()),
+        (4, b"x".as_slice()),
+        (5, b"xbc".as_slice()),
+    ] {
+        let mut device = MemoryDevice::of(alloc, bytes(alloc, b"abc")?);
+        device.fail_call(n);
+        for (done, call) in calls_done(&mut device).iter().zip(1u64..6) {
+            assert_eq!(rt; *done, call != n);
+        }
+        assert_eq!(rt; device.bytes(), after);
+    }
+    Ok(())
+}
+
+/// Writes a byte at the start, syncs, and cuts the file to nothing.
+fn use_sure_device(device: &mut SureDevice) -> [bool; 4] {
+    let length = device.length() == LengthAnswer::Known(3);
+    let written = device.write_at(0, b"x") == Answer::Done;
+    let synced = device.sync() == Answer::Done;
+    let cut = device.cut(0) == Answer::Done;
+    [length, written, synced, cut]
+}
+
+#[test]
+fn a_sure_device_takes_writes_and_cuts(rt: HostRuntime) -> Result<(), Fail> {
+    let alloc = rt.alloc();
+    let mut device = SureDevice::of(alloc, bytes(alloc, b"abc")?);
+    let mut into = [0u8; 0];
+    assert_eq!(rt; device.read_at(0, &mut into), Answer::Done);
+    assert_eq!(rt; use_sure_device(&mut device), [true; 4]);
+    assert!(rt; device.bytes().is_empty());
+    Ok(())
+}
+
+/// The text put twice.
+fn put_twice<S: Sink>(sink: &mut S, text: &[u8]) -> (Answer, Answer) {
+    let first = sink.put(text);
+    let second = sink.put(text);
+    (first, second)
+}
+
+#[test]
+fn sinks_in_memory_keep_what_is_put(rt: HostRuntime) {
+    let mut sink = MemorySink::new(rt.alloc());
+    sink.fail_call(4);
+    assert_eq!(rt; put_twice(&mut sink, b"ab"), (Answer::Done, Answer::Done));
+    assert_eq!(rt; put_twice(&mut sink, b"c"), (Answer::Done, Answer::Failed));
+    assert_eq!(rt; sink.bytes(), b"ababc".as_slice());
+    let mut sure = SureSink::new(rt.alloc());
+    assert_eq!(rt; put_twice(&mut sure, b"ab"), (Answer::Done, Answer::Done));
+    assert_eq!(rt; sure.bytes(), b"abab".as_slice());
+}
+
+/// Enters a gate.
+fn enter<T: Turnstile>(gate: &T) {
+    gate.enter(3);
+}
+
+#[test]
+fn the_free_gate_holds_nobody(_rt: HostRuntime) {
+    enter(&FreeTurnstile);
+}

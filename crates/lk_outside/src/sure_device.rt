@@ -1,0 +1,93 @@
+//! The output file held in memory, which fails for want of memory alone.
+
+ghost use Rattle.std.specs.Prelude.{◌≡◌, ◌≤◌, ◌+◌, [], length as list_length};
+ghost use Rattle.lk_outside.specs.Disk.{LengthGives, ReadAtGives, WriteAtGives, CutGives, SyncGives};
+ghost use Rattle.lk_outside.specs.DeviceInMemory.{sure_disk_of, SureLength, SureReadAt, SureWriteAt, SureCut, SureSync};
+
+use crate::devices::{Device, LengthAnswer};
+use crate::memory_device::MemoryDevice;
+use lk_report::{Answer, Bytes};
+use std::alloc::Global;
+use std::marker::Model;
+
+/// An output file that is held in memory. A write fails only where there is no memory for what it
+/// adds; no other call fails.
+#[derive(Drop, Debug)]
+pub struct SureDevice {
+    device: MemoryDevice,
+}
+
+impl Model for SureDevice {
+    ghost use Rattle.std.specs.Prelude.{◌≡◌, None};
+    ghost use Rattle.lk_outside.specs.DeviceInMemory.{SureDeviceInMemory};
+
+    ghost Value = { SureDeviceInMemory };
+
+    ghost view = { λ s. record {
+      bytes = s.device.bytes;
+      written = s.device.written;
+      faults = s.device.calls.faults;
+    } };
+
+    ghost invariant = { λ s. s.device.calls.failing ≡ None };
+}
+
+impl SureDevice {
+    /// A file of these bytes, of which no range was written.
+    pub fn of(alloc: Global, bytes: Bytes) -> Self
+        ensures { result ≡ record { bytes = bytes; written = []; faults = 0 } }
+    {
+        SureDevice {
+            device: MemoryDevice::of(alloc, bytes),
+        }
+    }
+
+    /// The file's bytes.
+    pub fn bytes(&self) -> &[u8]
+        ensures { result.now ≡ self.now.bytes }
+    {
+        self.device.bytes()
+    }
+}
+
+impl Device for SureDevice {
+    ghost disk = { sure_disk_of };
+
+    fn length(&mut self) -> LengthAnswer
+        ensures meets { LengthGives (sure_disk_of self.old) result (sure_disk_of self.new) }
+        ensures exactly { SureLength self.old result self.new }
+    {
+        self.device.length()
+    }
+
+    fn read_at(&mut self, at: u64, into: &mut [u8]) -> Answer
+        requires { at + list_length into.old ≤ list_length self.old.bytes }
+        ensures meets { ReadAtGives (sure_disk_of self.old) at into.old into.new result (sure_disk_of self.new) }
+        ensures exactly { SureReadAt self.old at into.old into.new result self.new }
+    {
+        self.device.read_at(at, into)
+    }
+
+    fn write_at(&mut self, at: u64, bytes: &[u8]) -> Answer
+        requires { at ≤ list_length self.old.bytes }
+        ensures meets { WriteAtGives (sure_disk_of self.old) at bytes.now result (sure_disk_of self.new) }
+        ensures exactly { SureWriteAt self.old at bytes.now result self.new }
+    {
+        self.device.write_at(at, bytes)
+    }
+
+    fn cut(&mut self, length: u64) -> Answer
+        requires { length ≤ list_length self.old.bytes }
+        ensures meets { CutGives (sure_disk_of self.old) length result (sure_disk_of self.new) }
+        ensures exactly { SureCut self.old length result self.new }
+    {
+        self.device.cut(length)
+    }
+
+    fn sync(&mut self) -> Answer
+        ensures meets { SyncGives (sure_disk_of self.old) result (sure_disk_of self.new) }
+        ensures exactly { SureSync self.old result self.new }
+    {
+        self.device.sync()
+    }
+}
