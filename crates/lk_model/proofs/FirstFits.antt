@@ -1,15 +1,14 @@
 -- First fit has at most two candidates in a hole: the least multiple that leaves a hole before it that can
 -- be filled, and the one whose bytes end with the hole.
-use Rattle.std.specs.Prelude.{◌≡◌, ℕ, zero, suc, Bool, true, false, IsTrue, List, [], ◌∷◌, Option, Some, None, ◌+◌, ◌-◌, ◌*◌, ◌/◌, ◌<◌, ◌≤◌, ◌⊎◌, ◌&&◌, ◌||◌, ◌==◌, nat_le, map, find, refl}
+use Rattle.std.specs.Prelude.{◌≡◌, ℕ, zero, suc, Bool, true, false, IsTrue, List, ◌∷◌, Some, None, ◌+◌, ◌-◌, ◌*◌, ◌/◌, ◌<◌, ◌≤◌, map, find, refl}
 use Rattle.std.specs.List.{range_with_len}
 use Rattle.std.proofs.Common.{arith, inl, inr, sym, ap, ◌∙◌}
 use Rattle.std.proofs.Math.Nat.{eq-or-lt_of_le, le_of_mul-le-mul_right, le-div_iff_mul-le, mul-lt-mul_of_pos_right}
 use Rattle.std.proofs.lemmas.Bool.Decides.{nat_tests}
-use Rattle.lk_model.specs.Amounts.{round_up}
 use Rattle.lk_model.specs.Rooms.{is_fillable, step_to}
-use Rattle.lk_model.specs.FirstFit.{multiples_in, fits_at, fit_in}
+use Rattle.lk_model.specs.FirstFit.{fits_at, fit_in}
 use Rattle.lk_model.specs.declared.layouts.Hole.{Hole}
-use Rattle.lk_model.proofs.Multiples.{round_up_above, round_up_below, round_up_least, fillable_tells, tells_fillable, too_small, step_cases, step_above, step_fillable, step_multiple, step_least}
+use Rattle.lk_model.proofs.Multiples.{round_up_above, round_up_least, fillable_tells, tells_fillable, too_small, step_above, step_fillable, step_multiple, step_least}
 
 -- what `find` answers by its first item
 find_here : (p : ℕ → Bool) (x : ℕ) (xs : List ℕ) → p x ≡ true → find p (x ∷ xs) ≡ Some x

@@ -1,4 +1,4 @@
-pub mod StretchLaws
+pub mod StretchLawProofs
 mod ResolutionInputs
 mod ResolutionExamples
 mod ScanExamples
@@ -19,3 +19,10 @@ mod PlacementExamples
 mod LawfulExamples
 mod FirstPathImages
 mod FirstPathRefusals
+pub mod Finding
+pub mod Rising
+pub mod RowsApart
+pub mod RowsAgain
+pub mod InOrder
+pub mod FullRows
+pub mod PiecesApart

@@ -1,6 +1,6 @@
 -- Multiples of an alignment: `round_up` is the least one that is not below a number, and `step_to` the
 -- least one at or above a cursor that leaves a hole that can be filled.
-use Rattle.std.specs.Prelude.{◌≡◌, ℕ, suc, Bool, true, false, IsTrue, List, ◌+◌, ◌-◌, ◌*◌, ◌/◌, ◌<◌, ◌≤◌, ◌⊎◌, nat_le, ◌==◌, ◌||◌, refl}
+use Rattle.std.specs.Prelude.{◌≡◌, ℕ, suc, false, IsTrue, ◌+◌, ◌-◌, ◌*◌, ◌/◌, ◌<◌, ◌≤◌, ◌⊎◌}
 use Rattle.std.proofs.Math.Nat.{div-mul-le_self, lt-div-mul-add, div-lt_iff_lt-mul, mul-le-mul_right}
 use Rattle.std.proofs.Common.{arith, inl, inr}
 use Rattle.std.proofs.lemmas.Bool.Decides.{nat_tests}

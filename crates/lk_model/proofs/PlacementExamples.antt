@@ -1,5 +1,5 @@
 -- Worked examples: where small links put everything, each with the exact numbers.
-use Rattle.std.specs.Prelude.{◌≡◌, ℕ, Bool, true, false, List, [], ◌∷◌, ◌++◌, Option, Some, None, ◌^◌, codes, replicate, refl}
+use Rattle.std.specs.Prelude.{◌≡◌, ℕ, true, false, [], ◌∷◌, ◌++◌, Some, ◌^◌, codes, replicate, refl}
 use Rattle.lk_elf.specs.Fields.{bytes_of}
 use Rattle.lk_elf.specs.declared.program_header.Phdr.{Phdr}
 use Rattle.lk_model.proofs.SmallLinks.{link, kept, called, terminator, row, unloaded, placed, got_rows, smallest}
@@ -9,15 +9,9 @@ use Rattle.lk_model.specs.Rooms.{room_of, step_to, patched_room}
 use Rattle.lk_model.specs.FullPlace.{full_place, extent_of, rows_of, piece_rows, memory_of, tail_start, section_count}
 use Rattle.lk_model.specs.Segments.{program_headers, tls_segment, tls_start, tls_end, second_segment_end, third_segment_end}
 use Rattle.lk_model.specs.Holes.{holes_of, fill_bytes, hole_bytes}
-use Rattle.lk_model.specs.Views.{KeptPiece, Resolved}
+use Rattle.lk_model.specs.Views.{Resolved}
 use Rattle.lk_model.specs.declared.layouts.Class.TheVariants.{R, X, W, WX, Tdata, Tbss, Bss, N}
-use Rattle.lk_model.specs.declared.layouts.GotKey.{GotKey}
 use Rattle.lk_model.specs.declared.layouts.GotOwner.TheVariants as owner
-use Rattle.lk_model.specs.declared.layouts.Hole.{Hole}
-use Rattle.lk_model.specs.declared.layouts.PieceId.TheVariants as piece
-use Rattle.lk_model.specs.declared.layouts.Placement.{Placement}
-use Rattle.lk_model.specs.declared.layouts.SectionRow.{SectionRow}
-use Rattle.lk_model.specs.declared.layouts.TlsSegment.{TlsSegment}
 
 -- its rows, its piece, its end and its memory
 smallest_place :

@@ -78,3 +78,21 @@ module _ {S M : Type 0} (wants : S → M → Bool) (step : S → M → S) where
   pub listed_of-ends : (s : S) (ms : List M) → list_any (wants s) ms ≡ false → listed_of wants step s ms ≡ []
   listed_of-ends s [] e = refl
   listed_of-ends s (x ∷ xs) e = ap (λ (o : Option (M × List M)). elim o [ None ↦ [] | Some found ↦ found.0 ∷ listed_within wants step (length xs) (step s found.0) found.1 ]) (turn-none (wants s) [] (x ∷ xs) e)
+
+  -- and no other list meets it
+  pub listed_within-only : (n : ℕ) (s : S) (waiting listed : List M) → length waiting ≤ n → IsListed wants step s waiting listed → listed ≡ listed_within wants step n s waiting
+  listed_within-only zero s [] [] fits h = refl
+  listed_within-only zero s [] (m ∷ ms) fits h = absurd h
+  listed_within-only zero s (x ∷ xs) listed fits h = absurd (omega arith)
+  listed_within-only (suc n) s waiting [] fits h = sym (ap (λ (o : Option (M × List M)). elim o [ None ↦ [] | Some found ↦ found.0 ∷ listed_within wants step n (step s found.0) found.1 ]) h)
+  listed_within-only (suc n) s waiting (m ∷ ms) fits h = go (next (wants s) waiting) refl h (listed_within-only n (step s m))
+    where
+      go : (o : Option (M × List M)) → next (wants s) waiting ≡ o → NextIs o m (λ rest. IsListed wants step (step s m) rest ms) → ((rest : List M) (later : List M) → length rest ≤ n → IsListed wants step (step s m) rest later → later ≡ listed_within wants step n (step s m) rest) → m ∷ ms ≡ elim o [ None ↦ [] | Some found ↦ found.0 ∷ listed_within wants step n (step s found.0) found.1 ]
+      go None e k later = absurd k
+      go (Some (found, rest)) e k later =
+          let size : suc (length rest) ≡ length {A = M} [] + length waiting = turn-length (wants s) [] waiting found rest e in
+          let small : length rest ≤ n = omega arith in
+          ap (λ (q : List M). m ∷ q) (later rest ms small k.1) ∙ ap (λ (x : M). x ∷ listed_within wants step n (step s x) rest) (sym k.0)
+
+  pub listed_of-only : (s : S) (waiting listed : List M) → IsListed wants step s waiting listed → listed ≡ listed_of wants step s waiting
+  listed_of-only s waiting listed h = listed_within-only (length waiting) s waiting listed (omega arith) h

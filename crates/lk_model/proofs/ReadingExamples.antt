@@ -1,12 +1,13 @@
 -- Worked examples: what a file is, an object as it is read, and each fault once; a false one is
 -- refused.
-use Rattle.std.specs.Prelude.{◌≡◌, ℕ, ◌+◌, true, false, List, [], ◌∷◌, ◌++◌, length, take, drop, negsuc, pos, codes, Some, None, Ok, Err, refl}
+use Rattle.std.specs.Prelude.{◌≡◌, ℕ, ◌+◌, Bool, true, false, List, [], ◌∷◌, ◌++◌, Bool, map, length, take, drop, negsuc, pos, codes, Some, None, Ok, Err, refl}
 use Rattle.lk_elf.specs.Fields.{number_of, num, signed64}
 use Rattle.lk_elf.specs.Records.{ehdr_at, shdr_at, sym_at, rela_at}
 use Rattle.lk_report.specs.declared.faults.InputFault.TheVariants.{Archive, Script, NotElf, WrongClass, WrongMachine, WrongType, BadTable, BadName, BadSymbol, BadRela, BadGroup, Compressed, UnsupportedSection, UnknownAlloc, UnsupportedSymbol}
 use Rattle.lk_model.specs.declared.layouts.Class.TheVariants.{R, X, W, WX, Tdata, Tbss, Bss, N}
 use Rattle.lk_model.specs.declared.summaries.Kind.TheVariants.{Object, Shared}
 use Rattle.lk_model.specs.declared.summaries.Home.TheVariants.{Undefined, Section, Absolute, Common}
+use Rattle.lk_model.specs.declared.summaries.PieceInfo.{PieceInfo}
 use Rattle.lk_model.specs.ObjectChecks.{section_checks_named, symbol_table_checks, symbol_checks_named, rela_checks, rela_section_checks, group_checks, object_checks, object_fault, table_checks, overlap_checks_after, group_checks_after}
 use Rattle.lk_model.specs.Elf.{section_headers_of, symbols_of, elf_with, elf_under, elf_of, name_at, section_name, symbol_name}
 use Rattle.lk_model.specs.Kinds.{header_checks, kind_checks, kind_of}
@@ -215,9 +216,11 @@ symbol_faults :
     × (object_fault (patched 212 (22 ∷ []) small) ≡ None)
     × (object_fault (patched 212 (22 ∷ 0 ∷ 1 ∷ []) small) ≡ Some (BadSymbol 3))
     × (object_fault (patched 212 (22 ∷ 0 ∷ 7 ∷ []) small) ≡ None)
+    × (object_fault (patched 212 (22 ∷ 0 ∷ 241 ∷ 255 ∷ []) small) ≡ Some (BadSymbol 3))
     × (object_fault (patched 164 (6 ∷ 0 ∷ 0 ∷ []) small) ≡ Some (BadSymbol 1))
+    × (object_fault (patched 164 (6 ∷ 0 ∷ 7 ∷ []) small) ≡ None)
 unfolding name_at section_name symbol_name header_checks is_terminator_where signature_of piece_named asks_exec_stack section_checks_named symbol_table_checks symbol_checks_named rela_checks rela_section_checks group_checks object_checks object_fault table_checks overlap_checks_after group_checks_after section_headers_of symbols_of elf_with elf_under elf_of kind_checks kind_of relas_under relocations_in piece_bytes_in words_under class_of common_names output_name is_piece key_of table_names tail_names relocation_types relocation_type_of width_of number_of num signed64 ehdr_at shdr_at sym_at rela_at pieces_in piece_with globals_in global_with groups_in summary_in local_in
-symbol_faults = (refl, refl, refl, refl, refl, refl, refl, refl, refl, refl, refl, refl, refl, refl, refl, refl, refl, refl, refl, refl, refl, refl, refl, refl)
+symbol_faults = (refl, refl, refl, refl, refl, refl, refl, refl, refl, refl, refl, refl, refl, refl, refl, refl, refl, refl, refl, refl, refl, refl, refl, refl, refl, refl)
 
 -- faults of relocations
 relocation_faults :
@@ -248,8 +251,9 @@ group_faults :
     × (object_fault (patched 128 (0 ∷ []) small) ≡ None)
     × (object_fault (patched 132 (0 ∷ []) small) ≡ Some (BadGroup 3))
     × (object_fault (patched 132 (8 ∷ []) small) ≡ Some (BadGroup 3))
+    × (object_fault (patched 756 (17 ∷ 0 ∷ 0 ∷ 0 ∷ 0 ∷ 0 ∷ 0 ∷ 0 ∷ 0 ∷ 0 ∷ 0 ∷ 0 ∷ 0 ∷ 0 ∷ 0 ∷ 0 ∷ 0 ∷ 0 ∷ 0 ∷ 0 ∷ 128 ∷ 0 ∷ 0 ∷ 0 ∷ 0 ∷ 0 ∷ 0 ∷ 0 ∷ 8 ∷ 0 ∷ 0 ∷ 0 ∷ 0 ∷ 0 ∷ 0 ∷ 0 ∷ 4 ∷ 0 ∷ 0 ∷ 0 ∷ 2 ∷ 0 ∷ 0 ∷ 0 ∷ []) small) ≡ Some (BadGroup 7))
 unfolding name_at section_name symbol_name header_checks is_terminator_where signature_of piece_named asks_exec_stack section_checks_named symbol_table_checks symbol_checks_named rela_checks rela_section_checks group_checks object_checks object_fault table_checks overlap_checks_after group_checks_after section_headers_of symbols_of elf_with elf_under elf_of kind_checks kind_of relas_under relocations_in piece_bytes_in words_under class_of common_names output_name is_piece key_of table_names tail_names relocation_types relocation_type_of width_of number_of num signed64 ehdr_at shdr_at sym_at rela_at pieces_in piece_with globals_in global_with groups_in summary_in local_in
-group_faults = (refl, refl, refl, refl, refl, refl, refl, refl, refl)
+group_faults = (refl, refl, refl, refl, refl, refl, refl, refl, refl, refl)
 
 -- the summary of the object of an assembler
 sample_summary :
@@ -303,6 +307,13 @@ executable_stack :
     (summary_in (elf_of (patched 1544 (4 ∷ []) sample))).exec_stack ≡ true
 unfolding name_at section_name symbol_name header_checks is_terminator_where signature_of piece_named asks_exec_stack section_checks_named symbol_table_checks symbol_checks_named rela_checks rela_section_checks group_checks object_checks object_fault table_checks overlap_checks_after group_checks_after section_headers_of symbols_of elf_with elf_under elf_of kind_checks kind_of relas_under relocations_in piece_bytes_in words_under class_of common_names output_name is_piece key_of table_names tail_names relocation_types relocation_type_of width_of number_of num signed64 ehdr_at shdr_at sym_at rela_at pieces_in piece_with globals_in global_with groups_in summary_in local_in
 executable_stack = refl
+
+-- what is no terminator: other bytes, or a relocation of it
+no_terminator :
+    (map {B = ℕ × Bool} (λ (piece : PieceInfo). (piece.size, piece.terminator)) (summary_in (elf_of (patched 129 (1 ∷ []) sample))).pieces ≡ (13, false) ∷ (16, false) ∷ (40, false) ∷ (1, false) ∷ (4, false) ∷ (4, false) ∷ (8, false) ∷ (29, false) ∷ [])
+    × (map {B = ℕ × Bool} (λ (piece : PieceInfo). (piece.size, piece.terminator)) (summary_in (elf_of (patched 1516 (8 ∷ []) sample))).pieces ≡ (13, false) ∷ (16, false) ∷ (40, false) ∷ (1, false) ∷ (4, false) ∷ (4, false) ∷ (8, false) ∷ (29, false) ∷ [])
+unfolding name_at section_name symbol_name header_checks is_terminator_where signature_of piece_named asks_exec_stack section_checks_named symbol_table_checks symbol_checks_named rela_checks rela_section_checks group_checks object_checks object_fault table_checks overlap_checks_after group_checks_after section_headers_of symbols_of elf_with elf_under elf_of kind_checks kind_of relas_under relocations_in piece_bytes_in words_under class_of common_names output_name is_piece key_of table_names tail_names relocation_types relocation_type_of width_of number_of num signed64 ehdr_at shdr_at sym_at rela_at pieces_in piece_with globals_in global_with groups_in summary_in local_in
+no_terminator = (refl, refl)
 
 -- the name of the section stands for an empty signature; a group with the word 0 is none
 signatures :

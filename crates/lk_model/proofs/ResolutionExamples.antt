@@ -1,5 +1,7 @@
 -- Links whose resolution is computed.
-use Rattle.std.specs.Prelude.{◌≡◌, refl, ℕ, false, List, [], ◌∷◌, map, codes, Some}
+use mathlib.Core.Path.{ap}
+use native.Mathlib.Omega.{arith}
+use Rattle.std.specs.Prelude.{true, get_or, ◌≡◌, refl, ℕ, false, List, [], ◌∷◌, map, codes, Some}
 use Rattle.lk_elf.specs.Numbers.{stt_tls, stt_func, stb_global, stv_default, stv_internal, stv_hidden, stv_protected}
 use Rattle.lk_report.specs.declared.faults.Fault.TheVariants as fault
 use Rattle.lk_model.specs.declared.layouts.Class.TheVariants as class
@@ -8,17 +10,21 @@ use Rattle.lk_model.specs.declared.summaries.Contributions.{Contributions}
 use Rattle.lk_model.specs.declared.summaries.Global.{Global}
 use Rattle.lk_model.specs.declared.summaries.Home.TheVariants as home
 use Rattle.lk_model.specs.declared.summaries.Winner.TheVariants as winner
-use Rattle.lk_model.specs.Adding.{added_inputs, added_of}
+use Rattle.lk_model.specs.Adding.{IsAdded, added_inputs, added_of}
+use Rattle.lk_model.specs.Finding.{found_of}
+use Rattle.lk_model.specs.Groups.{is_dropped}
+use Rattle.lk_model.specs.Numbered.{Numbered}
 use Rattle.lk_model.specs.NeedsOf.{needs_of}
-use Rattle.lk_model.specs.ResolveFaults.{resolve_faults}
+use Rattle.lk_model.specs.ResolveFaults.{faults_of, resolve_faults}
 use Rattle.lk_model.specs.Resolving.{resolve, is_kept, name_number_of}
 use Rattle.lk_model.specs.Views.{Input, KeptPiece, Resolved}
 use Rattle.lk_model.specs.Winners.{winner_of}
+use Rattle.lk_model.proofs.Adding.{added_of-only}
 use Rattle.lk_model.proofs.ResolutionInputs.{common, exported, member, no_elf, object, object_in, piece_named, plain_options, shared, strong, symbol, text, undefined, weak, weak_undefined}
 
 -- what resolution finds of inputs
 link : List Input → Resolved
-unfolding resolve added_inputs needs_of winner_of
+unfolding resolve found_of added_inputs needs_of winner_of
 link inputs = resolve plain_options inputs
 
 abbrev start : List ℕ
@@ -38,14 +44,14 @@ c = codes "c.o"
 
 -- two strong definitions of one name are a fault of the name, with both paths
 two_strong : resolve_faults (link (object a (strong 1 start 1 ∷ strong 2 f 1 ∷ []) ∷ object b (strong 1 f 1 ∷ []) ∷ [])) ≡ fault.MultipleDefinition f a b ∷ []
-unfolding link resolve_faults
+unfolding link resolve_faults faults_of
 two_strong = refl
 
 -- each later strong definition is told against the first, and names come in their order
 three_strong :
     resolve_faults (link (object a (strong 1 start 1 ∷ strong 2 f 1 ∷ []) ∷ object b (strong 1 f 1 ∷ strong 2 start 1 ∷ []) ∷ object c (strong 1 f 1 ∷ []) ∷ []))
     ≡ fault.MultipleDefinition start a b ∷ fault.MultipleDefinition f a b ∷ fault.MultipleDefinition f a c ∷ []
-unfolding link resolve_faults
+unfolding link resolve_faults faults_of
 three_strong = refl
 
 -- a weak definition yields to common blocks, of which the greatest size and alignment count
@@ -78,6 +84,11 @@ second_then_first : added_of start group_of_two ≡ 0 ∷ 2 ∷ 1 ∷ []
 unfolding group_of_two added_of added_inputs
 second_then_first = refl
 
+-- in command order they are not added
+not_in_order : IsAdded start group_of_two (0 ∷ 1 ∷ 2 ∷ []) → ⊥
+unfolding group_of_two added_of added_inputs
+not_in_order h = let second : ◌≡◌ {A = ℕ} 1 2 = ap (λ (xs : List ℕ). get_or xs 1 0) (added_of-only start group_of_two (0 ∷ 1 ∷ 2 ∷ []) h) in absurd (omega arith)
+
 -- a weak reference adds no member
 weak_adds_none : added_of start (object (codes "m.o") (strong 1 start 1 ∷ weak_undefined 2 (codes "gy") ∷ []) ∷ member 1 (codes "y.o") (strong 1 (codes "gy") 1 ∷ []) ∷ []) ≡ 0 ∷ []
 unfolding added_of added_inputs
@@ -105,9 +116,17 @@ grouped : ℕ → List ℕ → List Global → Input
 grouped lib path globals = object_in lib path (text 1 ∷ piece_named 2 (codes ".text.t") class.X ∷ []) globals (record { signature = codes "t"; members = 2 ∷ [] } ∷ []) no_elf
 
 -- of two groups with one signature the first added is kept, and what the other defines is a reference
+two_objects : List Input
+two_objects = grouped 0 a (strong 1 start 1 ∷ strong 2 (codes "t") 2 ∷ []) ∷ grouped 0 b (strong 1 (codes "t") 2 ∷ []) ∷ []
+
 two_groups : Resolved
-unfolding link grouped
-two_groups = link (grouped 0 a (strong 1 start 1 ∷ strong 2 (codes "t") 2 ∷ []) ∷ grouped 0 b (strong 1 (codes "t") 2 ∷ []) ∷ [])
+unfolding link grouped two_objects
+two_groups = link two_objects
+
+-- the inputs of a command that are added
+numbered : List Input → List Numbered
+unfolding added_inputs
+numbered inputs = added_inputs start inputs
 
 first_group_kept : map (λ (k : KeptPiece). k.piece) two_groups.kept ≡ piece.Section 0 1 ∷ piece.Section 0 2 ∷ piece.Section 1 1 ∷ []
 unfolding two_groups
@@ -117,12 +136,20 @@ second_group_dropped : is_kept two_groups 1 2 ≡ false
 unfolding two_groups
 second_group_dropped = refl
 
+dropped_member : is_dropped (numbered two_objects) 1 2 ≡ true
+unfolding numbered two_objects grouped
+dropped_member = refl
+
+kept_member : is_dropped (numbered two_objects) 0 2 ≡ false
+unfolding numbered two_objects grouped
+kept_member = refl
+
 first_group_wins : two_groups.winners ≡ winner.Strong 0 1 ∷ winner.Strong 0 2 ∷ []
 unfolding two_groups
 first_group_wins = refl
 
 groups_no_fault : resolve_faults two_groups ≡ []
-unfolding two_groups resolve_faults
+unfolding two_groups resolve_faults faults_of
 groups_no_fault = refl
 
 -- a member whose group is claimed already defines nothing that is wanted
@@ -149,27 +176,27 @@ internal_before_hidden = refl
 
 -- a name that is thread-local where it is defined and a function elsewhere
 tls_definition : resolve_faults (link (object a (strong 1 start 1 ∷ symbol 2 f stb_global stt_tls (home.Section 1) ∷ []) ∷ object b (symbol 1 f stb_global stt_func home.Undefined ∷ []) ∷ [])) ≡ fault.TlsMismatch f ∷ []
-unfolding link resolve_faults
+unfolding link resolve_faults faults_of
 tls_definition = refl
 
 -- and the other way round; a reference without type fits both
 tls_reference :
     resolve_faults (link (object a (strong 1 start 1 ∷ strong 2 f 1 ∷ symbol 3 (codes "g") stb_global stt_tls (home.Section 1) ∷ []) ∷ object b (symbol 1 f stb_global stt_tls home.Undefined ∷ undefined 2 (codes "g") ∷ []) ∷ []))
     ≡ fault.TlsMismatch f ∷ []
-unfolding link resolve_faults
+unfolding link resolve_faults faults_of
 tls_reference = refl
 
 -- an entry that nothing defines, that the linker makes, and that is a common block
 no_entry : resolve_faults (link (object a (undefined 1 start ∷ []) ∷ [])) ≡ fault.NoEntry start ∷ []
-unfolding link resolve_faults
+unfolding link resolve_faults faults_of
 no_entry = refl
 
 made_entry : resolve_faults (resolve (record plain_options { entry = codes "end" }) (object a (undefined 1 (codes "end") ∷ []) ∷ [])) ≡ fault.NoEntry (codes "end") ∷ []
-unfolding link resolve_faults
+unfolding link resolve_faults faults_of
 made_entry = refl
 
 common_entry : resolve_faults (link (object a (common 1 start 8 8 ∷ []) ∷ [])) ≡ []
-unfolding link resolve_faults
+unfolding link resolve_faults faults_of
 common_entry = refl
 
 -- a name that the linker makes where an object refers to it; a definition of it stands before

@@ -1,15 +1,13 @@
 -- Small links for worked examples: what resolution found of a few pieces, and rows by their numbers.
-use Rattle.std.specs.Prelude.{ℕ, Bool, true, false, List, [], ◌∷◌, ◌-◌, ◌+◌, codes}
-use Rattle.lk_report.specs.declared.causes.OptionRecord.{OptionRecord}
+use Rattle.std.specs.Prelude.{ℕ, true, false, List, [], ◌∷◌, ◌-◌, ◌+◌, codes}
 use Rattle.lk_model.specs.SectionKeys.{named}
 use Rattle.lk_model.specs.Views.{KeptPiece, Resolved}
 use Rattle.lk_model.specs.declared.layouts.Class.{Class}
 use Rattle.lk_model.specs.declared.layouts.Class.TheVariants.{R, X, W, N}
-use Rattle.lk_model.specs.declared.layouts.GotKey.{GotKey}
-use Rattle.lk_model.specs.declared.layouts.PieceId.{PieceId}
 use Rattle.lk_model.specs.declared.layouts.PieceId.TheVariants as piece
 use Rattle.lk_model.specs.declared.layouts.PieceRow.{PieceRow}
 use Rattle.lk_model.specs.declared.layouts.SectionRow.{SectionRow}
+use Rattle.lk_model.specs.declared.layouts.SlotTable.{SlotTable}
 
 -- a link that keeps these pieces and needs no slots
 abbrev pub link : List KeptPiece → Resolved
@@ -76,3 +74,7 @@ placed input section number addr size align =
 -- the last two rows of a link without slots and without data: the GOT at its page
 abbrev pub got_rows : ℕ → List SectionRow
 got_rows at = row (codes ".got") W at 0 64 16 ∷ row (codes ".got.plt") W (at + 64) 24 64 16 ∷ []
+
+-- no slots
+abbrev pub no_slots : SlotTable
+no_slots = record { got = []; plt = [] }

@@ -22,7 +22,7 @@ use Rattle.lk_model.specs.Kinds.{kind_of}
 use Rattle.lk_model.specs.Links.{resolved_of}
 use Rattle.lk_model.specs.ObjectChecks.{object_fault}
 use Rattle.lk_model.specs.Overflows.{overflow_faults}
-use Rattle.lk_model.specs.Plain.{is_plain}
+use Rattle.lk_model.specs.PlainLimits.{is_linked_plain}
 use Rattle.lk_model.specs.ResolveFaults.{resolve_faults, name_count}
 use Rattle.lk_model.specs.ScanFaults.{scan_faults}
 use Rattle.lk_model.specs.Segments.{program_headers}
@@ -58,16 +58,28 @@ image_length r place = let parts = tail_parts r place in headers_offset place pa
 
 abbrev pub placement_limit : Resolved → Placement → Option Status
 placement_limit r place =
-    elim (limit_fault limit.Sections 60000 (section_count place)) [ Some s ↦ Some s | None ↦
-    elim (limit_fault limit.Memory (2 ^ 31) (memory_of place)) [ Some s ↦ Some s | None ↦
-    elim (limit_fault limit.Headers 64 (length (program_headers place (exec_stack_of r)))) [ Some s ↦ Some s | None ↦
-    limit_fault limit.Image (2 ^ 29) (image_length r place) ] ] ]
+    elim (limit_fault limit.Sections 60000 (section_count place)) [
+      | Some s ↦ Some s
+      | None ↦
+          elim (limit_fault limit.Memory (2 ^ 31) (memory_of place)) [
+            | Some s ↦ Some s
+            | None ↦
+                elim (limit_fault limit.Headers 64 (length (program_headers place (exec_stack_of r)))) [
+                  | Some s ↦ Some s
+                  | None ↦
+                      limit_fault limit.Image (2 ^ 29) (image_length r place)
+                ]
+          ]
+    ]
 
 -- the answer of a link whose inputs have no fault: names, resolution, scan, then the placement
 abbrev pub placed_answer : Resolved → Placement → Status
 placed_answer r place =
-    elim (placement_limit r place) [ Some s ↦ s | None ↦
-    elim (fault_status (overflow_faults r place)) [ Some s ↦ s | None ↦ full_link ] ]
+    elim (placement_limit r place) [
+      | Some s ↦ s
+      | None ↦
+          elim (fault_status (overflow_faults r place)) [ Some s ↦ s | None ↦ full_link ]
+    ]
 
 -- whether a link needs slots, PLT entries or copies
 abbrev pub is_empty : {X : Type 0} → List X → Bool
@@ -86,18 +98,30 @@ needs_wait r = if needs_nothing r.needs then None else Some (status.NotYet (wait
 
 abbrev pub resolved_answer : Resolved → Status
 resolved_answer r =
-    elim (limit_fault limit.Names (2 ^ 20) (name_count r)) [ Some s ↦ s | None ↦
-    elim (fault_status (resolve_faults r)) [ Some s ↦ s | None ↦
-    elim (fault_status (scan_faults r)) [ Some s ↦ s | None ↦
-    elim (needs_wait r) [ Some s ↦ s | None ↦ placed_answer r (full_place r) ] ] ] ]
+    elim (limit_fault limit.Names (2 ^ 20) (name_count r)) [
+      | Some s ↦ s
+      | None ↦
+          elim (fault_status (resolve_faults r)) [
+            | Some s ↦ s
+            | None ↦
+                elim (fault_status (scan_faults r)) [
+                  | Some s ↦ s
+                  | None ↦
+                      elim (needs_wait r) [ Some s ↦ s | None ↦ placed_answer r (full_place r) ]
+                ]
+          ]
+    ]
 
 -- the limits on the sizes of inputs, as soon as one is exceeded in command order
 abbrev pub size_limit : ℕ → List Input → Option Status
 size_limit before [] = None
 size_limit before (i ∷ is) =
     let n = length i.elf.bytes in
-    elim (limit_fault limit.InputSize (2 ^ 26) n) [ Some s ↦ Some s | None ↦
-    elim (limit_fault limit.InputTotal (2 ^ 30) (before + n)) [ Some s ↦ Some s | None ↦ size_limit (before + n) is ] ]
+    elim (limit_fault limit.InputSize (2 ^ 26) n) [
+      | Some s ↦ Some s
+      | None ↦
+          elim (limit_fault limit.InputTotal (2 ^ 30) (before + n)) [ Some s ↦ Some s | None ↦ size_limit (before + n) is ]
+    ]
 
 -- an input outside a lib group that is a shared object
 abbrev pub is_shared_kind : Result Kind InputFault → Bool
@@ -140,13 +164,28 @@ words_wait c = if waits_words c then Some (status.NotYet waiting.Words) else Non
 -- the answer of a command of a static link
 unfoldable pub command_answer : Command → FileMap → Status
 command_answer c files =
-    elim (words_wait c) [ Some s ↦ s | None ↦
-    elim (limit_fault limit.Inputs 4096 (length (input_words c))) [ Some s ↦ s | None ↦
-    elim (fault_status (missing_of c files)) [ Some s ↦ s | None ↦
-    let inputs = inputs_of c files in
-    elim (size_limit 0 inputs) [ Some s ↦ s | None ↦
-    elim (shared_waits inputs) [ Some s ↦ s | None ↦
-    elim (fault_status (input_faults inputs)) [ Some s ↦ s | None ↦ resolved_answer (resolved_of c files) ] ] ] ] ] ]
+    elim (words_wait c) [
+      | Some s ↦ s
+      | None ↦
+          elim (limit_fault limit.Inputs 4096 (length (input_words c))) [
+            | Some s ↦ s
+            | None ↦
+                elim (fault_status (missing_of c files)) [
+                  | Some s ↦ s
+                  | None ↦
+                      let inputs = inputs_of c files in
+                      elim (size_limit 0 inputs) [
+                        | Some s ↦ s
+                        | None ↦
+                            elim (shared_waits inputs) [
+                              | Some s ↦ s
+                              | None ↦
+                                  elim (fault_status (input_faults inputs)) [ Some s ↦ s | None ↦ resolved_answer (resolved_of c files) ]
+                            ]
+                      ]
+                ]
+          ]
+    ]
 
 -- the answer of the words of a static link
 unfoldable pub static_answer : List (List ℕ) → FileMap → Status
@@ -161,10 +200,13 @@ is_no_elf (Err f) = elim f [ input_fault.NotElf ↦ true | _ ↦ false ]
 abbrev pub plain_answer : Command → FileMap → List ℕ → List ℕ → Status
 plain_answer c files path bytes =
     if is_no_elf (kind_of bytes) then status.LinkError (fault.Input path input_fault.NotElf ∷ [])
-    else (if is_plain bytes then
-      (let r = resolved_of c files in
-       elim (fault_status (scan_faults r)) [ Some s ↦ s | None ↦
-       elim (fault_status (overflow_faults r (full_place r))) [ Some s ↦ s | None ↦ full_link ] ])
+    else (if is_linked_plain path bytes then
+    (let r = resolved_of c files in
+    elim (fault_status (scan_faults r)) [
+      | Some s ↦ s
+      | None ↦
+          elim (fault_status (overflow_faults r (full_place r))) [ Some s ↦ s | None ↦ full_link ]
+    ])
     else status.NotYet (waiting.Form path))
 
 -- the command that the four words are
@@ -178,6 +220,6 @@ file_answer c files path (Some row) = plain_answer c files path row.bytes
 unfoldable pub first_answer : List (List ℕ) → FileMap → Status
 first_answer words files =
     elim (four_words words) [
-      None ↦ status.NotYet waiting.Words
-    | Some (out, path) ↦ elim (accepted_command words) [ None ↦ status.NotYet waiting.Words | Some c ↦ file_answer c files path (files path) ]
+      | None ↦ status.NotYet waiting.Words
+      | Some (out, path) ↦ elim (accepted_command words) [ None ↦ status.NotYet waiting.Words | Some c ↦ file_answer c files path (files path) ]
     ]

@@ -44,7 +44,7 @@ file_header r place parts = record {
   e_phnum = length (program_headers place (exec_stack_of r));
   e_shentsize = 64;
   e_shnum = length place.sections + length parts + 1;
-  e_shstrndx = length place.sections + length parts
+  e_shstrndx = length place.sections + length parts;
 }
 
 -- the file header and the program headers

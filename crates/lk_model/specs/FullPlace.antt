@@ -5,13 +5,11 @@ use Rattle.std.specs.Prelude.{ℕ, Bool, true, false, if◌then◌else◌, List,
 use Rattle.std.specs.List.{enumerate_from}
 use Rattle.lk_model.specs.Amounts.{round_up}
 use Rattle.lk_model.specs.SectionKeys.{same_key, same_class, is_alloc, in_file, is_patched, is_numbered_array, least_of, reserved_of}
-use Rattle.lk_model.specs.SectionOrder.{Segment, First, Second, Third, segment_of, same_segment, slots_of, table_sizes, section_keys}
+use Rattle.lk_model.specs.SectionOrder.{Segment, First, segment_of, same_segment, slots_of, table_sizes, section_keys}
 use Rattle.lk_model.specs.Rooms.{room_of, patched_offset, patched_end, patched_room, sequence_offset, sequence_end, sequence_of, before_in_sequence}
 use Rattle.lk_model.specs.Views.{KeptPiece, Resolved}
 use Rattle.lk_model.specs.declared.layouts.Class.{Class}
-use Rattle.lk_model.specs.declared.layouts.Class.TheVariants.{Tdata, Tbss, N}
-use Rattle.lk_model.specs.declared.layouts.GotKey.{GotKey}
-use Rattle.lk_model.specs.declared.layouts.Needs.{Needs}
+use Rattle.lk_model.specs.declared.layouts.Class.TheVariants.{Tdata, Tbss}
 use Rattle.lk_model.specs.declared.layouts.PieceRow.{PieceRow}
 use Rattle.lk_model.specs.declared.layouts.Placement.{Placement}
 use Rattle.lk_model.specs.declared.layouts.SectionKey.{SectionKey}
@@ -161,12 +159,12 @@ abbrev pub offset_in_sequence : SectionKey → List KeptPiece → List KeptPiece
 offset_in_sequence key all earlier piece = sequence_offset (sequence_end (before_in_sequence (is_numbered_array key) all earlier piece)) piece
 
 abbrev pub offset_by_kind : Bool → SectionRow → List KeptPiece → List KeptPiece → KeptPiece → ℕ
-offset_by_kind true row all earlier piece = offset_in_patched row earlier piece
-offset_by_kind false row all earlier piece = offset_in_sequence row.key all earlier piece
+offset_by_kind true row all earlier piece = offset_in_patched row (pieces_in row.key earlier) piece
+offset_by_kind false row all earlier piece = offset_in_sequence row.key (pieces_in row.key all) (pieces_in row.key earlier) piece
 
 -- the offset of a piece in its output section: `all` are the kept pieces, `earlier` those before it
 abbrev pub offset_in : SectionRow → List KeptPiece → List KeptPiece → KeptPiece → ℕ
-offset_in row all earlier piece = offset_by_kind (is_patched row.key) row (pieces_in row.key all) (pieces_in row.key earlier) piece
+offset_in row all earlier piece = offset_by_kind (is_patched row.key) row all earlier piece
 
 -- the section row of a key, with its number
 abbrev pub numbered_row : List SectionRow → SectionKey → Option (ℕ × SectionRow)

@@ -156,10 +156,11 @@ phrases_of words = phrases_from 1 None words
 
 -- ---- faults
 
--- the number of digits, and the number that they spell
+-- 1 to 4 decimal digits
 abbrev pub is_digits : List ℕ → Bool
 is_digits text = nat_le 1 (length text) && nat_le (length text) 4 && list_all (λ b. nat_le 48 b && nat_le b 57) text
 
+-- the number that decimal digits spell
 abbrev pub number_in : List ℕ → ℕ
 number_in text = fold (λ n b. n * 10 + (b - 48)) 0 text
 
@@ -235,46 +236,56 @@ open_checks (Some number) = (true, OpenLib number) ∷ []
 
 -- ---- the command
 
--- each of these is the value after one more phrase; the last phrase that gives one counts
+-- the words named `with_..` tell the value after one more phrase: the last phrase that gives one counts
+
+-- the output's path
 abbrev pub with_output : List ℕ → Phrase → List ℕ
 with_output old (Given number Output at (Some value)) = value
 with_output old other = old
 
+-- the entry symbol
 abbrev pub with_entry : List ℕ → Phrase → List ℕ
 with_entry old (Given number Entry at (Some value)) = value
 with_entry old other = old
 
+-- the interpreter's path
 abbrev pub with_interp : List ℕ → Phrase → List ℕ
 with_interp old (Given number Interp at (Some value)) = value
 with_interp old other = old
 
+-- the earlier image
 abbrev pub with_base : Option (List ℕ) → Phrase → Option (List ℕ)
 with_base old (Given number Base at (Some value)) = Some value
 with_base old other = old
 
+-- the room for growth in percent
 abbrev pub with_patch : ℕ → Phrase → ℕ
 with_patch old (Given number Patch at (Some value)) = number_in value
 with_patch old other = old
 
+-- how the output is made
 abbrev pub with_mode : Mode → Phrase → Mode
 with_mode old (Flagged number (InMode mode)) = mode
 with_mode old other = old
 
+-- whether every definition is exported
 abbrev pub with_export : Bool → Phrase → Bool
 with_export old (Flagged number ExportDynamic) = true
 with_export old other = old
 
+-- the number of workers
 abbrev pub with_workers : ℕ → Phrase → ℕ
 with_workers old (Flagged number Threads) = 4
 with_workers old (Flagged number NoThreads) = 1
 with_workers old (Given number ThreadCount at (Some value)) = number_in value
 with_workers old other = old
 
--- the directories that a phrase adds, to search and to the run path
+-- the directories that a phrase adds to the search
 abbrev pub dirs_of : Phrase → List (List ℕ)
 dirs_of (Given number Dir at (Some value)) = value ∷ []
 dirs_of other = []
 
+-- the directories that a phrase adds to the run path
 abbrev pub run_dirs_of : Phrase → List (List ℕ)
 run_dirs_of (Given number RunPath at (Some value)) = value ∷ []
 run_dirs_of other = []

@@ -52,9 +52,9 @@ end_stretches row =
 abbrev pub row_stretches : Resolved → Placement → ℕ × SectionRow → List Stretch
 row_stretches r place (n, row) =
     if in_file row.key.class then
-      map (piece_stretch r place row) (filter (is_in_row n) (zip r.kept place.pieces))
-      ++ table_stretches r place row ++ map (hole_stretch row) (holes_of place n)
-      ++ end_stretches row
+    map (piece_stretch r place row) (filter (is_in_row n) (zip r.kept place.pieces))
+    ++ table_stretches r place row ++ map (hole_stretch row) (holes_of place n)
+    ++ end_stretches row
     else []
 
 abbrev pub part_stretch : PlacedPart → Stretch

@@ -112,12 +112,12 @@ inputs_of command files = inputs_after [] (filter_map (found_in command files) (
 
 -- ---- what is read of the inputs
 
--- an input outside a lib group is read as what it is; a member of a lib group is always read as an object
+-- a shared object by its first bytes
 abbrev pub is_shared : Result Kind InputFault → Bool
 is_shared (Ok Shared) = true
 is_shared other = false
 
--- an input that is read as a shared object
+-- an input that is read as a shared object; a member of a lib group is always read as an object
 unfoldable pub reads_as_shared : Input → Bool
 reads_as_shared input = input.lib == 0 && is_shared (kind_of input.elf.bytes)
 

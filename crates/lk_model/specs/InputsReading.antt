@@ -86,7 +86,7 @@ kept_piece rows input section row addr size align name flags =
     with_value (truth_of_number (flags / 2)) (λ terminator.
     Some (record {
       info = record { section = section; name = name; key = r.key; size = size; align = align; terminator = terminator };
-      placed = Some (record { piece = id.Section input section; section = row; addr = addr; size = size; align = align })
+      placed = Some (record { piece = id.Section input section; section = row; addr = addr; size = size; align = align });
     })))
 
 abbrev pub lost_piece : ℕ → ℕ → ℕ → List ℕ → ℕ → Option ReadPiece
@@ -96,7 +96,7 @@ lost_piece section size align name flags =
     with_value found (λ terminator.
     Some (record {
       info = record { section = section; name = name; key = record { name = output_name class name; class = class }; size = size; align = align; terminator = terminator };
-      placed = None
+      placed = None;
     }))))
 
 abbrev pub piece_with : List SectionRow → ℕ → Values piece_forms → Option ReadPiece
@@ -111,12 +111,18 @@ global_forms = Text32 ∷ Num32 ∷ Num32 ∷ Num32 ∷ Num64 ∷ Num64 ∷ Num3
 abbrev pub global_with : Values global_forms → Option Global
 global_with (name, (packed, (home_word, (section, (value, (size, (symbol, (zero_word, _)))))))) =
     if zero_word == 0 then
-      option_map
-        (λ h. record {
-          symbol = symbol; name = name; binding = packed % 256; code = (packed / 256) % 256; visibility = packed / 65536;
-          home = h; value = value; size = size
-        })
-        (home_of_number home_word section)
+    option_map
+    (λ h. record {
+      symbol = symbol;
+      name = name;
+      binding = packed % 256;
+      code = (packed / 256) % 256;
+      visibility = packed / 65536;
+      home = h;
+      value = value;
+      size = size;
+    })
+    (home_of_number home_word section)
     else None
 
 -- a group: its head, then its members
@@ -165,12 +171,20 @@ is_kind kind lib = if kind == 1 then lib == 0 else (if (kind == 2) || (kind == 3
 abbrev pub input_with : Values input_forms → Option InputHead
 input_with (path, (occurrence, (kind_word, (lib, (flag, (soname, (len, (time, (pieces, (globals, (groups, (exec_word, _)))))))))))) =
     if is_kind kind_word lib then
-      with_value (stamp_with flag len time) (λ stamp.
-      with_value (truth_of_number exec_word) (λ exec_stack.
-      Some (record {
-        path = path; occurrence = occurrence; kind = kind_word; lib = lib; stamp = stamp; soname = soname; pieces = pieces;
-        globals = globals; groups = groups; exec_stack = exec_stack
-      })))
+    with_value (stamp_with flag len time) (λ stamp.
+    with_value (truth_of_number exec_word) (λ exec_stack.
+    Some (record {
+      path = path;
+      occurrence = occurrence;
+      kind = kind_word;
+      lib = lib;
+      stamp = stamp;
+      soname = soname;
+      pieces = pieces;
+      globals = globals;
+      groups = groups;
+      exec_stack = exec_stack;
+    })))
     else None
 
 -- an input as it is read: its record, and the rows of its kept pieces
@@ -199,10 +213,10 @@ input_of h pieces globals groups = record {
       exec_stack = h.exec_stack;
       pieces = map info_of pieces;
       globals = globals;
-      groups = groups
-    }
+      groups = groups;
+    };
   };
-  placed = placed_rows pieces
+  placed = placed_rows pieces;
 }
 
 module _ (texts : ℕ → Option (List ℕ)) (rows : List SectionRow) where

@@ -45,9 +45,9 @@ section_fields row =
 -- 4 a shared input
 abbrev pub input_kind : InputRecord → ℕ
 input_kind i = elim i.summary.kind [
-    kind.Shared ↦ 4
+  | kind.Shared ↦ 4
   | kind.Object ↦ if i.lib == 0 then 1 else (if i.added then 2 else 3)
-  ]
+]
 
 abbrev pub stamp_flag : Option Stamp → ℕ
 stamp_flag None = 0

@@ -1,19 +1,21 @@
 -- This project's own: which pieces a link keeps, in order: the sections of the added objects that no
 -- group drops, in adding order and by section; then, in order of names, the merged common blocks (gABI
 -- "Symbol Table", SHN_COMMON) and the copies of imported objects (psABI, R_X86_64_COPY).
-use Rattle.std.specs.Prelude.{ℕ, ◌%◌, ◌==◌, Bool, true, false, cond, List, [], ◌∷◌, map, flat_map, filter, filter_map, find, codes, Option, Some, None, option_map, option_and_then, slice_get}
+use Rattle.std.specs.Prelude.{ℕ, ◌%◌, ◌==◌, ◌&&◌, Bool, true, false, cond, List, [], ◌∷◌, map, flat_map, filter, filter_map, zip, codes, Option, Some, None, option_map}
 use Rattle.std.specs.List.{enumerate_from}
 use Rattle.lk_model.specs.declared.layouts.Class.{Class}
 use Rattle.lk_model.specs.declared.layouts.Class.TheVariants as class
 use Rattle.lk_model.specs.declared.layouts.PieceId.TheVariants as piece
 use Rattle.lk_model.specs.declared.layouts.SectionKey.{SectionKey}
+use Rattle.lk_model.specs.declared.summaries.Contributions.{Contributions}
 use Rattle.lk_model.specs.declared.summaries.Global.{Global}
 use Rattle.lk_model.specs.declared.summaries.PieceInfo.{PieceInfo}
 use Rattle.lk_model.specs.declared.summaries.Winner.{Winner}
 use Rattle.lk_model.specs.declared.summaries.Winner.TheVariants as winner
 use Rattle.lk_model.specs.Groups.{is_left, with_claims}
 use Rattle.lk_model.specs.Numbered.{Numbered, is_number_in}
-use Rattle.lk_model.specs.Views.{Input, KeptPiece}
+use Rattle.lk_model.specs.Winners.{symbol_among}
+use Rattle.lk_model.specs.Views.{KeptPiece}
 
 -- whether an output section of this class is loaded
 abbrev pub is_loaded : Class → Bool
@@ -56,20 +58,24 @@ copy_align value = first_dividing (64 ∷ 32 ∷ 16 ∷ 8 ∷ 4 ∷ 2 ∷ []) va
 abbrev pub copy_piece : ℕ → Global → KeptPiece
 copy_piece name g = record { piece = piece.Copy name; key = bss_key; name = []; size = g.size; align = copy_align g.value; terminator = false }
 
--- a symbol of an input that is not LOCAL, by the numbers of both
-abbrev pub global_in : List Input → ℕ → ℕ → Option Global
-global_in inputs input symbol = option_and_then (λ (x : Input). find (λ (g : Global). g.symbol == symbol) x.summary.globals) (slice_get inputs input)
-
 -- the piece that a name has of its own, where it has one: its common block, or its copy where it is
 -- among the copied names
-abbrev pub name_piece : List Input → List ℕ → ℕ → Winner → Option KeptPiece
-name_piece inputs copies name (winner.Common size align) = Some (common_piece name size align)
-name_piece inputs copies name (winner.Import input symbol) = cond (is_number_in copies name) (option_map (copy_piece name) (global_in inputs input symbol)) None
-name_piece inputs copies name winner.Nothing = None
-name_piece inputs copies name (winner.Strong input symbol) = None
-name_piece inputs copies name (winner.Weak input symbol) = None
-name_piece inputs copies name winner.Made = None
+abbrev pub name_piece : List ℕ → ℕ → Contributions → Winner → Option KeptPiece
+name_piece copies name cs (winner.Common size align) = Some (common_piece name size align)
+name_piece copies name cs (winner.Import input symbol) = cond (is_number_in copies name) (option_map (copy_piece name) (symbol_among cs.list input symbol)) None
+name_piece copies name cs winner.Nothing = None
+name_piece copies name cs (winner.Strong input symbol) = None
+name_piece copies name cs (winner.Weak input symbol) = None
+name_piece copies name cs winner.Made = None
 
 -- the common blocks and copies, in order of names
-abbrev pub name_pieces : List Input → List ℕ → List Winner → List KeptPiece
-name_pieces inputs copies winners = filter_map (λ (w : ℕ × Winner). name_piece inputs copies w.0 w.1) (enumerate_from 0 winners)
+abbrev pub name_pieces : List ℕ → List Contributions → List Winner → List KeptPiece
+name_pieces copies names winners = filter_map (λ (x : ℕ × (Contributions × Winner)). name_piece copies x.0 x.1.0 x.1.1) (enumerate_from 0 (zip names winners))
+
+-- whether a kept piece is this section of this input
+abbrev pub is_section_piece : ℕ → ℕ → KeptPiece → Bool
+is_section_piece input section k = elim k.piece [ piece.Section i s ↦ (i == input) && (s == section) | piece.Common name ↦ false | piece.Copy name ↦ false ]
+
+-- whether a kept piece is a section of an input
+abbrev pub is_input_piece : KeptPiece → Bool
+is_input_piece k = elim k.piece [ piece.Section i s ↦ true | piece.Common name ↦ false | piece.Copy name ↦ false ]

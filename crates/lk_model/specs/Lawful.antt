@@ -1,6 +1,6 @@
 -- This project's own: when a placement is one that a link of these inputs may have, made anew or kept
 -- up to date. A row without a piece may be left over from an earlier link.
-use Rattle.std.specs.Prelude.{◌≡◌, ℕ, Bool, true, false, IsTrue, if◌then◌else◌, List, [], ◌∷◌, Option, Some, None, ◌+◌, ◌%◌, ◌==◌, ◌&&◌, ◌||◌, not, nat_le, length, take, map, filter, zip, count_by, ⊤}
+use Rattle.std.specs.Prelude.{◌≡◌, ℕ, Bool, true, false, IsTrue, if◌then◌else◌, List, [], ◌∷◌, Option, Some, None, ◌+◌, ◌%◌, ◌==◌, ◌&&◌, ◌||◌, not, nat_le, take, map, filter, zip, count_by, ⊤}
 use Rattle.std.specs.List.{AllByRecursion, IsDistinct, enumerate_from, list_all, list_any, slice_get}
 use Rattle.lk_model.specs.SectionKeys.{same_key, same_class, is_alloc, in_file, is_patched, is_numbered_array, least_of, reserved_of}
 use Rattle.lk_model.specs.SectionOrder.{in_order, table_sizes}
@@ -9,13 +9,11 @@ use Rattle.lk_model.specs.FullPlace.{Extent, pieces_in, table_size, rows_of, off
 use Rattle.lk_model.specs.Holes.{holes_of}
 use Rattle.lk_model.specs.Keys.{same_got, is_slot_of}
 use Rattle.lk_model.specs.Views.{KeptPiece, Resolved}
-use Rattle.lk_model.specs.declared.layouts.Class.{Class}
 use Rattle.lk_model.specs.declared.layouts.Class.TheVariants.{Tbss}
 use Rattle.lk_model.specs.declared.layouts.GotKey.{GotKey}
 use Rattle.lk_model.specs.declared.layouts.GotOwner.{GotOwner}
 use Rattle.lk_model.specs.declared.layouts.GotOwner.TheVariants as owner
 use Rattle.lk_model.specs.declared.layouts.Hole.{Hole}
-use Rattle.lk_model.specs.declared.layouts.Needs.{Needs}
 use Rattle.lk_model.specs.declared.layouts.PieceId.{PieceId}
 use Rattle.lk_model.specs.declared.layouts.PieceRow.{PieceRow}
 use Rattle.lk_model.specs.declared.layouts.Placement.{Placement}

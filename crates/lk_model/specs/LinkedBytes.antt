@@ -37,10 +37,10 @@ section_bytes r place input section =
 unfoldable pub linked_bytes : Resolved → Placement → KeptPiece → List ℕ
 linked_bytes r place kept =
     elim kept.terminator [
-      true ↦ []
-    | false ↦ elim kept.piece [
-        id.Section i s ↦ section_bytes r place i s
-      | id.Common n ↦ []
-      | id.Copy n ↦ []
+      | true ↦ []
+      | false ↦ elim kept.piece [
+        | id.Section i s ↦ section_bytes r place i s
+        | id.Common n ↦ []
+        | id.Copy n ↦ []
       ]
     ]

@@ -27,7 +27,7 @@ pub record LoadedByte : Type 0 where
 abbrev pub byte_under : List ℕ → ℕ → Phdr → LoadedByte
 byte_under image address h = record {
   byte = if nat_lt (address - h.p_vaddr) h.p_filesz then slice_index image (h.p_offset + (address - h.p_vaddr)) else 0;
-  rights = h.p_flags
+  rights = h.p_flags;
 }
 
 -- what a loader puts at an address: by the first LOAD header that maps it

@@ -25,20 +25,23 @@ use Rattle.lk_model.specs.Elf.{lies_in, numbered, section_at, bytes_under, secti
 use Rattle.lk_model.specs.Pieces.{key_of}
 use Rattle.lk_model.specs.Views.{Elf}
 
--- the binding, the type and the visibility of a symbol (gABI "Symbol Table", st_info and st_other)
+-- the binding of a symbol (gABI "Symbol Table", st_info)
 abbrev pub binding_of : Sym → ℕ
 binding_of symbol = symbol.st_info / 16
 
+-- the type of a symbol (gABI "Symbol Table", st_info)
 abbrev pub type_of : Sym → ℕ
 type_of symbol = symbol.st_info % 16
 
+-- the visibility of a symbol (gABI "Symbol Table", st_other)
 abbrev pub visibility_of_symbol : Sym → ℕ
 visibility_of_symbol symbol = symbol.st_other % 4
 
--- the symbol and the type of a relocation (gABI "Relocation", r_info)
+-- the symbol of a relocation, by number (gABI "Relocation", r_info)
 abbrev pub symbol_of_rela : Rela → ℕ
 symbol_of_rela rela = rela.r_info / 2 ^ 32
 
+-- the type of a relocation (gABI "Relocation", r_info)
 abbrev pub code_of_rela : Rela → ℕ
 code_of_rela rela = rela.r_info % 2 ^ 32
 
@@ -59,7 +62,7 @@ rela_sections_of elf target =
 unfoldable pub relocations_in : Elf → ℕ → List Rela
 relocations_in elf target = flat_map (λ (row : ℕ × Shdr). relas_under elf row.1) (rela_sections_of elf target)
 
--- the bytes of a section in the file; none where it has none there
+-- the bytes of a section in the file; a NOBITS section has none there
 unfoldable pub piece_bytes_in : Elf → ℕ → List ℕ
 piece_bytes_in elf n =
     flat_map (λ (header : Shdr). if header.sh_type == sht_nobits then [] else bytes_under elf header)
@@ -78,11 +81,12 @@ is_class_r other = false
 abbrev pub is_frames : SectionKey → Bool
 is_frames key = is_class_r key.class && bytes_eq key.name (codes ".eh_frame")
 
--- a terminator: a piece of .eh_frame of exactly four zero bytes without relocations
+-- a terminator, where the section is one of frames: exactly four zero bytes without relocations
 unfoldable pub is_terminator_where : Bool → Elf → ℕ → Bool
 is_terminator_where false elf n = false
 is_terminator_where true elf n = bytes_eq (piece_bytes_in elf n) four_zeros && length (relocations_in elf n) == 0
 
+-- a terminator: a piece of .eh_frame of exactly four zero bytes without relocations
 abbrev pub is_terminator : Elf → ℕ → SectionKey → Bool
 is_terminator elf n key = is_terminator_where (is_frames key) elf n
 
@@ -229,7 +233,7 @@ local_with symbol = record {
 abbrev pub null_symbol : Local
 null_symbol = record { home = Undefined; value = 0; size = 0; code = stt_notype }
 
--- a LOCAL symbol by its number, or the null symbol
+-- a LOCAL symbol by its number; number 0 is the null symbol, and no other number is asked for that has no symbol
 unfoldable pub local_in : Elf → ℕ → Local
 local_in elf zero = null_symbol
 local_in elf (suc k) = unwrap_or (option_map local_with (slice_get elf.symbols (suc k))) null_symbol

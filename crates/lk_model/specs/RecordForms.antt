@@ -63,7 +63,7 @@ module _ {X : Type 0} where
   abbrev pub read_record : (ℕ → Option (List ℕ)) → (fs : List Form) → (Values fs → Option X) → List ℕ → Given X
   read_record texts fs row bytes =
       if nat_le (record_width fs) (length bytes) then
-        given_row (option_and_then row (values_with texts fs (raw_numbers fs bytes))) bytes (drop (record_width fs) bytes)
+      given_row (option_and_then row (values_with texts fs (raw_numbers fs bytes))) bytes (drop (record_width fs) bytes)
       else Err (length bytes)
 
   -- so many records, one after another

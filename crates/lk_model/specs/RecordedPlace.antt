@@ -67,5 +67,5 @@ recorded_place r image =
     Some (record {
       sections = x.sections;
       pieces = flat_map (placed_of x) (recorded_order x) ++ filter is_made_piece full.pieces;
-      slots = full.slots
+      slots = full.slots;
     }))

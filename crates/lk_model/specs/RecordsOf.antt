@@ -25,7 +25,7 @@ input_record added (n, i) = record {
   lib = i.lib;
   added = list_any (λ m. m == n) added;
   stamp = i.stamp;
-  summary = i.summary
+  summary = i.summary;
 }
 
 -- the kind of a winner and its input
@@ -64,5 +64,5 @@ records_of r place = record {
   inputs = map (input_record r.added) (enumerate_from 0 r.inputs);
   names = map name_row (zip r.names r.winners);
   references = filter_map recorded_reference r.references;
-  placement = place
+  placement = place;
 }

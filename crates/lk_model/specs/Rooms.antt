@@ -3,9 +3,7 @@
 use Rattle.std.specs.Prelude.{ℕ, Bool, true, false, if◌then◌else◌, List, [], ◌∷◌, ◌++◌, ◌+◌, ◌-◌, ◌*◌, ◌/◌, ◌==◌, ◌&&◌, ◌||◌, nat_eq, nat_le, nat_lt, max, length, drop, fold, filter, take_while, codes}
 use Rattle.std.specs.List.{list_all, starts_with, prefix_len}
 use Rattle.lk_model.specs.Amounts.{round_up}
-use Rattle.lk_model.specs.SectionKeys.{same_key, is_numbered_array}
 use Rattle.lk_model.specs.Views.{KeptPiece}
-use Rattle.lk_model.specs.declared.layouts.SectionKey.{SectionKey}
 
 -- the room for n bytes: more by so many percent, in whole lines of 64 bytes
 unfoldable pub room_of : ℕ → ℕ → ℕ

@@ -1,6 +1,6 @@
 -- This project's own: what the name and the class of an output section say of it. Header types and
 -- flags are those of gABI "Sections", "Special Sections".
-use Rattle.std.specs.Prelude.{ℕ, Bool, true, false, if◌then◌else◌, List, [], ◌∷◌, ◌++◌, ◌==◌, ◌&&◌, ◌||◌, not, nat_eq, codes, bytes_eq, ◌+◌, find, option_map, unwrap_or}
+use Rattle.std.specs.Prelude.{ℕ, Bool, if◌then◌else◌, List, [], ◌∷◌, ◌==◌, ◌&&◌, ◌||◌, not, nat_eq, codes, bytes_eq, ◌+◌, find, option_map, unwrap_or}
 use Rattle.std.specs.List.{list_any, starts_with}
 use Rattle.lk_elf.specs.Numbers.{sht_progbits, sht_strtab, sht_rela, sht_hash, sht_dynamic, sht_note, sht_nobits, sht_dynsym, sht_init_array, sht_fini_array, sht_preinit_array, shf_write, shf_alloc, shf_execinstr, shf_tls}
 use Rattle.lk_model.specs.declared.layouts.Class.{Class}

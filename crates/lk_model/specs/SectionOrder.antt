@@ -1,7 +1,7 @@
 -- This project's own: which output sections exist, and their order in the image (gABI "Special
 -- Sections" has their names). Read only sections come first, then those that may be executed, then
 -- those that may be written, and last those that are not loaded.
-use Rattle.std.specs.Prelude.{ℕ, Bool, true, false, if◌then◌else◌, List, [], ◌∷◌, ◌++◌, ◌==◌, ◌+◌, ◌*◌, not, codes, bytes_eq, fold, filter, flat_map, map, length, Some}
+use Rattle.std.specs.Prelude.{ℕ, Bool, true, false, if◌then◌else◌, List, [], ◌∷◌, ◌++◌, ◌==◌, ◌+◌, ◌*◌, codes, bytes_eq, fold, filter, flat_map, map, length, Some}
 use Rattle.std.specs.List.{list_any, position_or_len, range_with_len}
 use Rattle.lk_model.specs.SectionKeys.{same_key, is_note, got_key, got_plt_key}
 pub use Rattle.lk_model.specs.SectionKeys.{is_patched, is_note, least_of, fill_kind, header_type, header_flags, is_alloc, in_file}
@@ -91,7 +91,7 @@ writable_rank name =
     if list_any (bytes_eq name) names_after_others then 24 + place_in names_after_others name
     else 18 + place_in names_before_others name
 
--- the rank of an output section in the image, from 0 to 30
+-- the rank of a section of a class
 abbrev pub rank_in : Class → SectionKey → ℕ
 rank_in R key = first_rank key
 rank_in X key = 11 + place_in executable_names key.name
@@ -102,6 +102,7 @@ rank_in WX key = 23
 rank_in Bss key = if bytes_eq key.name (codes ".bss") then 28 else 29
 rank_in N key = 30
 
+-- the rank of an output section in the image, from 0 to 30
 unfoldable pub section_rank : SectionKey → ℕ
 section_rank key = rank_in key.class key
 
@@ -125,9 +126,12 @@ table_sizes r slots =
 abbrev pub slots_of : Needs → SlotTable
 slots_of needs = record { got = map Some needs.got; plt = needs.plt }
 
--- the output sections of a link in order: those that a kept piece goes to, and the tables
+-- the output sections that exist: those that a kept piece goes to, in order of the first, and the tables
+abbrev pub existing_keys : Resolved → List SectionKey
+existing_keys r =
+    each_once (map (λ (piece : KeptPiece). piece.key) r.kept)
+    ++ map (λ (row : SectionKey × ℕ). row.0) (table_sizes r (slots_of r.needs))
+
+-- the output sections of a link in their order
 unfoldable pub section_keys : Resolved → List SectionKey
-section_keys r =
-    in_order
-    (each_once (map (λ (piece : KeptPiece). piece.key) r.kept)
-    ++ map (λ (row : SectionKey × ℕ). row.0) (table_sizes r (slots_of r.needs)))
+section_keys r = in_order (existing_keys r)

@@ -1,6 +1,6 @@
 -- The program headers of an image (gABI "Program Header", "Program Loading"; p_flags there), from its
 -- section rows alone, and the ends of its segments.
-use Rattle.std.specs.Prelude.{ℕ, Bool, true, false, if◌then◌else◌, List, [], ◌∷◌, ◌++◌, Option, Some, None, ◌+◌, ◌-◌, ◌*◌, ◌==◌, ◌&&◌, not, max, length, map, filter, find, codes}
+use Rattle.std.specs.Prelude.{ℕ, Bool, if◌then◌else◌, List, [], ◌∷◌, ◌++◌, Option, Some, None, ◌+◌, ◌-◌, ◌*◌, not, max, length, map, filter, find, codes}
 use Rattle.std.specs.List.{list_any}
 use Rattle.lk_elf.specs.Numbers.{pt_load, pt_dynamic, pt_interp, pt_note, pt_phdr, pt_tls, pt_gnu_stack, pf_r, pf_w, pf_x, phdr_size, ehdr_size}
 use Rattle.lk_elf.specs.declared.program_header.Phdr.{Phdr}

@@ -162,7 +162,7 @@ numbers_through r place ref (ByName n weak) =
       got = got_address place;
       z = winner_size r w;
       tls_start = block_edge here (tls_start place);
-      tls_end = block_edge here (tls_end place)
+      tls_end = block_edge here (tls_end place);
     }
 numbers_through r place ref (ByLocal k) =
     let s = local_value r place ref.input k in
@@ -177,7 +177,7 @@ numbers_through r place ref (ByLocal k) =
       got = got_address place;
       z = l.size;
       tls_start = block_edge here (tls_start place);
-      tls_end = block_edge here (tls_end place)
+      tls_end = block_edge here (tls_end place);
     }
 
 abbrev pub numbers_of : Resolved → Placement → Ref → Numbers
@@ -195,8 +195,8 @@ reference_fits r place ref = fits ref.code (reference_value r place ref)
 abbrev pub owner_value : Resolved → Placement → GotOwner → ℕ
 owner_value r place (owner.Global n) =
     elim (winner_of_name r n) [
-      winner.Import i k ↦ placed_address place (id.Copy n)
-    | _ ↦ name_value r place n
+      | winner.Import i k ↦ placed_address place (id.Copy n)
+      | _ ↦ name_value r place n
     ]
 owner_value r place (owner.Local i k) = local_value r place i k
 

@@ -75,7 +75,7 @@ part_row p = record {
   offset = p.offset;
   size = length p.part.bytes;
   room = length p.part.bytes;
-  align = 8
+  align = 8;
 }
 
 -- the type of a part's header
@@ -96,7 +96,7 @@ row_header name_offset row = record {
   sh_link = 0;
   sh_info = 0;
   sh_addralign = row.align;
-  sh_entsize = 0
+  sh_entsize = 0;
 }
 
 abbrev pub part_header : (List ℕ → ℕ) → SectionRow → Shdr
@@ -110,7 +110,7 @@ part_header name_offset row = record {
   sh_link = 0;
   sh_info = 0;
   sh_addralign = row.align;
-  sh_entsize = 0
+  sh_entsize = 0;
 }
 
 abbrev pub null_header : Shdr

@@ -35,7 +35,7 @@ begins_text bytes offset = (offset == 0) || (slice_index bytes (offset - 1) == 0
 abbrev pub text_at : List ℕ → ℕ → Option (List ℕ)
 text_at bytes offset =
     if nat_lt offset (length bytes) then
-      (if begins_text bytes offset then
-         (let rest = drop offset bytes in elim (position (λ b. b == 0) rest) [ None ↦ None | Some n ↦ Some (take n rest) ])
-       else None)
+    (if begins_text bytes offset then
+    (let rest = drop offset bytes in elim (position (λ b. b == 0) rest) [ None ↦ None | Some n ↦ Some (take n rest) ])
+    else None)
     else None

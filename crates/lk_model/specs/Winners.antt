@@ -1,10 +1,11 @@
 -- Which definition a name means. Strong before weak, and a common block that yields to a strong
 -- definition and stands before a weak one, are the gABI's ("Symbol Table", "Common Symbols"); the rest
 -- is this project's own.
-use Rattle.std.specs.Prelude.{ℕ, Bool, cond, ◌==◌, max, min, List, [], ◌∷◌, filter, find, fold, Option, Some, None, option_map}
-use Rattle.lk_elf.specs.Numbers.{stv_default}
+use Rattle.std.specs.Prelude.{ℕ, Bool, true, false, ◌&&◌, cond, ◌==◌, max, min, List, [], ◌∷◌, filter, find, fold, Option, Some, None, option_map}
+use Rattle.lk_elf.specs.Numbers.{stt_tls, stv_default}
 use Rattle.lk_model.specs.declared.summaries.Contribution.{Contribution}
 use Rattle.lk_model.specs.declared.summaries.Contributions.{Contributions}
+use Rattle.lk_model.specs.declared.summaries.Global.{Global}
 use Rattle.lk_model.specs.declared.summaries.Winner.{Winner}
 use Rattle.lk_model.specs.declared.summaries.Winner.TheVariants as winner
 use Rattle.lk_model.specs.Symbols.{is_of_object, is_strong_definition, is_weak_definition, is_object_common, is_shared_definition}
@@ -52,3 +53,41 @@ first_offered (Some w ∷ others) = w
 -- the definition that a name means
 unfoldable pub winner_of : Contributions → Bool → ℕ → Winner
 winner_of cs is_made visibility = first_offered (strong_among cs.list ∷ common_among cs.list ∷ weak_among cs.list ∷ made_where is_made ∷ import_among visibility cs.list ∷ [])
+
+-- whether a symbol is this one of this input
+abbrev pub is_symbol_of : ℕ → ℕ → Contribution → Bool
+is_symbol_of input symbol c = (c.input == input) && (c.global.symbol == symbol)
+
+-- a symbol of a name, by the numbers of its input and its own
+abbrev pub symbol_among : List Contribution → ℕ → ℕ → Option Global
+symbol_among list input symbol = option_map (λ (c : Contribution). c.global) (find (is_symbol_of input symbol) list)
+
+-- the symbol that a winner is, where it is one of an input
+abbrev pub symbol_of_winner : Contributions → Winner → Option Global
+symbol_of_winner cs (winner.Strong input symbol) = symbol_among cs.list input symbol
+symbol_of_winner cs (winner.Weak input symbol) = symbol_among cs.list input symbol
+symbol_of_winner cs (winner.Import input symbol) = symbol_among cs.list input symbol
+symbol_of_winner cs (winner.Common size align) = None
+symbol_of_winner cs winner.Made = None
+symbol_of_winner cs winner.Nothing = None
+
+-- the symbol in a shared input that a winner is, where it is an import
+abbrev pub import_symbol : Contributions → Winner → Option Global
+import_symbol cs (winner.Import input symbol) = symbol_among cs.list input symbol
+import_symbol cs (winner.Strong input symbol) = None
+import_symbol cs (winner.Weak input symbol) = None
+import_symbol cs (winner.Common size align) = None
+import_symbol cs winner.Made = None
+import_symbol cs winner.Nothing = None
+
+-- whether a winner is thread-local, as its symbol tells
+abbrev pub is_tls_winner : Contributions → Winner → Bool
+is_tls_winner cs w = elim (symbol_of_winner cs w) [ None ↦ false | Some g ↦ g.code == stt_tls ]
+
+-- whether a winner is none
+abbrev pub is_nothing : Winner → Bool
+is_nothing w = elim w [ winner.Nothing ↦ true | winner.Strong i s ↦ false | winner.Common n a ↦ false | winner.Weak i s ↦ false | winner.Made ↦ false | winner.Import i s ↦ false ]
+
+-- whether a winner stands in an object
+abbrev pub is_in_object : Winner → Bool
+is_in_object w = elim w [ winner.Nothing ↦ false | winner.Strong i s ↦ true | winner.Common n a ↦ true | winner.Weak i s ↦ true | winner.Made ↦ false | winner.Import i s ↦ false ]

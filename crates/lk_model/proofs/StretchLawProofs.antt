@@ -49,9 +49,10 @@ stand-from pre place (s ∷ ss) e h =
     let gap : length (pre ++ zs) ≡ s.at = length-gap pre place s.at e low in
     let here : Stands ((pre ++ zs) ++ (s.bytes ++ rest)) s = stands-after (pre ++ zs) s.bytes rest s.at gap in
     let long : length ((pre ++ zs) ++ s.bytes) ≡ s.at + length s.bytes = length-append (pre ++ zs) s.bytes ∙ ap (λ n. n + length s.bytes) gap in
-    let there = stand-from ((pre ++ zs) ++ s.bytes) (s.at + length s.bytes) ss long more in
-    ( subst (λ l. Stands l s) (sym (shift pre zs s.bytes rest)) here
-    , subst (λ l. AllStand l ss) (sym (shift-2 pre zs s.bytes rest)) there )
+    let there = stand-from ((pre ++ zs) ++ s.bytes) (s.at + length s.bytes) ss long more in (
+      subst (λ l. Stands l s) (sym (shift pre zs s.bytes rest)) here,
+      subst (λ l. AllStand l ss) (sym (shift-2 pre zs s.bytes rest)) there,
+    )
 
 -- the length of what is laid
 length-from : (place : ℕ) (s : Stretch) (ss : List Stretch) → rises_from place (s ∷ ss) ≡ true
@@ -121,9 +122,9 @@ zero-from pre place (s ∷ ss) e h k from upto none =
     let others : list_any (has_byte k) ss ≡ false = or-second (has_byte k s) (list_any (has_byte k) ss) none in
     let upto-2 : k < length (((pre ++ zs) ++ s.bytes) ++ rest) = subst (λ l. k < length l) (shift-2 pre zs s.bytes rest) upto in
     either-side s.at k
-      (λ past. subst (λ l. get_or l k 0 ≡ 0) (sym (shift-2 pre zs s.bytes rest))
-                (zero-from ((pre ++ zs) ++ s.bytes) (s.at + length s.bytes) ss long more k (past-stretch s k past apart) upto-2 others))
-      (λ before. subst (λ l. get_or l k 0 ≡ 0) (sym (shift pre zs s.bytes rest)) (in-gap pre place s.at (s.bytes ++ rest) k e low from before))
+    (λ past. subst (λ l. get_or l k 0 ≡ 0) (sym (shift-2 pre zs s.bytes rest))
+    (zero-from ((pre ++ zs) ++ s.bytes) (s.at + length s.bytes) ss long more k (past-stretch s k past apart) upto-2 others))
+    (λ before. subst (λ l. get_or l k 0 ≡ 0) (sym (shift pre zs s.bytes rest)) (in-gap pre place s.at (s.bytes ++ rest) k e low from before))
 
 -- stretches that rise, laid one after another, stand at their places
 pub laid-out-stands : (ss : List Stretch) → rises_from 0 ss ≡ true → IsLaidOut ss (laid_out ss)
@@ -131,7 +132,7 @@ unfolding laid_out
 laid-out-stands ss h = record {
   stands = stand-from [] 0 ss refl h;
   zeros = λ k upto none. zero-from [] 0 ss refl h k (omega arith) upto none;
-  ends = whole-length ss h
+  ends = whole-length ss h;
 }
   where
     whole-length : (ss : List Stretch) → rises_from 0 ss ≡ true → length (laid_from 0 ss) ≡ end_of_all ss
@@ -177,5 +178,5 @@ pub patch-keeps : (image bytes : List ℕ) (at : ℕ) (t : Stretch) → at + len
     → is_apart (record { at = at; bytes = bytes }) t ≡ true → Stands image t → Stands (patch image at bytes) t
 patch-keeps image bytes at t fits apart stands =
     either-side (at + length bytes) t.at
-      (λ after. behind image bytes at t.at (length t.bytes) fits after ∙ stands)
-      (λ close. before image bytes at t.at (length t.bytes) fits (apart-before at bytes t apart close) ∙ stands)
+    (λ after. behind image bytes at t.at (length t.bytes) fits after ∙ stands)
+    (λ close. before image bytes at t.at (length t.bytes) fits (apart-before at bytes t apart close) ∙ stands)
