@@ -26,3 +26,7 @@ pub mod RowsAgain
 pub mod InOrder
 pub mod FullRows
 pub mod PiecesApart
+mod SmallestLink
+mod ValueExamples
+mod StaticExamples
+mod StaticRefusals
