@@ -26,6 +26,8 @@ mod sinks;
 mod stamps;
 mod status_texts;
 mod statuses;
+#[cfg(test)]
+mod tests;
 
 pub use causes::{Cause, OptionRecord};
 pub use contents::Bytes;
