@@ -138,6 +138,15 @@ filter_over {A} p q (x ∷ xs) within = go (q x) refl (filter_over p q xs within
     go true f rest = rw f (rw (within x f) (ap (λ ys. x ∷ ys) rest))
     go false f rest = rw f rest
 
+-- every rank is one of those that `in_order` goes over
+pub rank_within : (key : SectionKey) → section_rank key < 31
+unfolding section_rank
+rank_within key = go (is_alloc key.class) refl
+  where
+    go : (b : Bool) → is_alloc key.class ≡ b → section_rank key < 31
+    go true e = let below = rank_below key.class key e in omega (arith, below)
+    go false e = let last = last_rank key.class key (rw e refl) in omega (arith, last)
+
 -- what has a rank below the last is loaded
 rank_is_loaded : (r : ℕ) → r < 30 → (key : SectionKey) → has_rank r key ≡ true → is_alloc key.class ≡ true
 unfolding section_rank

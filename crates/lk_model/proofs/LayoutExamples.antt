@@ -17,6 +17,7 @@ hole start length = record { start = start; length = length }
 -- first fit with at least 16 bytes left
 first_fits :
     (first_fit (hole 0x100 0x20 ∷ hole 0x200 0x40 ∷ []) 16 0x18 16 ≡ Some 0x200)
+    × (first_fit (hole 0x100 0x20 ∷ hole 0x200 0x40 ∷ []) 16 0x60 16 ≡ None)
     × (first_fit (hole 0x100 0x20 ∷ hole 0x218 0x28 ∷ []) 16 0x60 16 ≡ None)
     × (first_fit (hole 0x100 0x20 ∷ hole 0x200 0x40 ∷ []) 16 0x20 16 ≡ Some 0x100)
     × (first_fit (hole 0x100 0x30 ∷ []) 16 0x10 32 ≡ Some 0x100)
@@ -25,9 +26,9 @@ first_fits :
     × (first_fit (hole 1 5000 ∷ []) 1 4096 4 ≡ Some 4)
     × (first_fit [] 1 1 1 ≡ None)
 unfolding first_fit
-first_fits = (refl, refl, refl, refl, refl, refl, refl, refl)
+first_fits = (refl, refl, refl, refl, refl, refl, refl, refl, refl)
 
--- the rooms of 0, 1, 582 and 1000 bytes with 10 percent more, and with none
+-- rooms with 10 percent more, with none and with 500
 rooms :
     (room_of 10 0 ≡ 64)
     × (room_of 10 1 ≡ 64)

@@ -27,6 +27,10 @@ pub mod InOrder
 pub mod FullRows
 pub mod PiecesApart
 mod SmallestLink
-mod ValueExamples
 mod StaticExamples
 mod StaticRefusals
+pub mod KeysFound
+pub mod PiecesPlaced
+pub mod RowsTold
+pub mod TablesThere
+mod ValueExamples
