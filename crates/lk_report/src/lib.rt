@@ -10,15 +10,24 @@
 //! the whole text, or a prefix of it with a count of faults that rose.
 #![tactic(auto)]
 
+mod cause_texts;
 mod causes;
 mod contents;
+mod copies;
+mod exits;
+mod fault_texts;
 mod faults;
 mod lists;
 mod memory;
 mod names;
+mod numbers;
+mod saying;
 mod sinks;
 mod stamps;
+mod status_texts;
 mod statuses;
+#[cfg(test)]
+mod tests;
 
 pub use causes::{Cause, OptionRecord};
 pub use contents::Bytes;
@@ -28,4 +37,5 @@ pub use memory::{NoMemory, TryCopy};
 pub use names::Name;
 pub use sinks::{Answer, Sink};
 pub use stamps::Stamp;
+pub use status_texts::say;
 pub use statuses::{LimitFault, LimitKind, Outcome, Status, Waiting};

@@ -1,0 +1,64 @@
+//! What an image records of its link, so that a later link can update it.
+
+use crate::layouts::Placement;
+use crate::summaries::InputSummary;
+use lk_report::{List, Name, OptionRecord, Stamp};
+
+/// A relocation of a kept piece through a symbol that is not LOCAL.
+#[derive(Clone, Copy, PartialEq, Eq, Debug)]
+pub struct Reference {
+    /// The input's number.
+    pub input: u32,
+    /// The target section's number in it.
+    pub section: u32,
+    /// The field's offset in the section, in bytes.
+    pub offset: u64,
+    /// The relocation type.
+    pub code: u32,
+    /// The name's number.
+    pub name: u32,
+    pub addend: i64,
+    /// Whether the symbol of the reference is WEAK.
+    pub weak: bool,
+}
+
+/// An input as an image records it.
+#[derive(PartialEq, Eq, Debug, Drop)]
+pub struct InputRecord {
+    pub path: Name,
+    /// The number of earlier inputs with the same path.
+    pub occurrence: u32,
+    /// The number of its lib group from 1, or 0.
+    pub lib: u32,
+    /// Whether the link added it.
+    pub added: bool,
+    pub stamp: Option<Stamp>,
+    pub summary: InputSummary,
+}
+
+/// A name as an image records it: the kind of its winner (0 none, 1 strong, 2 common, 3 weak,
+/// 4 made, 5 import) and the winner's input.
+#[derive(PartialEq, Eq, Debug, Drop)]
+pub struct NameRow {
+    pub name: Name,
+    pub winner: u32,
+    pub input: Option<u32>,
+}
+
+/// All that an image records of its link.
+#[derive(PartialEq, Eq, Debug, Drop)]
+pub struct Records {
+    pub version: u32,
+    pub options: OptionRecord,
+    pub inputs: InputRecordList,
+    pub names: NameRowList,
+    pub references: ReferenceList,
+    pub placement: Placement,
+}
+
+/// References in adding order, by section and entry.
+pub type ReferenceList = List<Reference>;
+/// Inputs in command order.
+pub type InputRecordList = List<InputRecord>;
+/// Names in their order.
+pub type NameRowList = List<NameRow>;

@@ -1,0 +1,3 @@
+pub mod PartByPart
+pub mod Digits
+mod TextExamples

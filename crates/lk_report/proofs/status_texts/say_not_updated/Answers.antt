@@ -1,0 +1,7 @@
+use Rattle.lk_report.specs.Texts.{text_of}
+use Rattle.lk_report.proofs.PartByPart.{◌▸◌}
+use Rattle.lk_report.proofs.status_texts.say_not_updated.Goals as goal
+
+pub returns : goal.returns
+unfolding text_of
+returns g c = c.say_bytes-progress.ensures ▸ c.say_cause-progress.ensures ▸ c.say_bytes.ensures
