@@ -1,5 +1,5 @@
 -- A row that is set in the list of files in memory, as the map sees it.
-use Rattle.std.proofs.Common.{◌≡◌, ◌<◌, ◌≤◌, ◌++◌, ◌∷◌, [], ℕ, List, length, set, get_or, Option, Some, None, Result, Ok, Err, OnOk, subst, Bool, cond, true, false, find, position, bytes_eq, option_map, refl, ◌∙◌, sym, ap, arith}
+use Rattle.std.proofs.Common.{◌≡◌, ◌≤◌, ◌++◌, ◌∷◌, [], ℕ, List, length, set, get_or, Option, Some, None, Result, Ok, Err, OnOk, subst, Bool, cond, true, false, find, position, bytes_eq, option_map, refl, ◌∙◌, sym, ap, arith}
 use Rattle.std.specs.List.{position_or_len}
 use Rattle.std.specs.Option.{option_or}
 use Rattle.std.proofs.lemmas.List.Folds.{find_at, find-set, find_past, find-append}
@@ -7,7 +7,7 @@ use Rattle.std.proofs.lemmas.List.Quantifiers.{position-Some}
 use Rattle.std.proofs.lemmas.Option.{slice_get_past}
 use Rattle.std.proofs.lemmas.Slice.Eq.{bytes_eq-Decides}
 use Rattle.lk_outside.specs.declared.file_entries.FileEntry.{FileEntry}
-use Rattle.lk_outside.specs.FilesInMemory.{row_of, map_of, SetsRow}
+use Rattle.lk_outside.specs.FilesInMemory.{row_of, SetsRow}
 
 -- whether a file has this path
 abbrev pub has_path : List ℕ → FileEntry → Bool

@@ -1,5 +1,5 @@
 -- Worked examples of the definitions: what they say of small files.
-use Rattle.std.proofs.Common.{◌≡◌, ◌<◌, ◌≤◌, ◌-◌, ◌^◌, ◌∷◌, [], List, Some, None, codes, refl, negsuc, pos, arith}
+use Rattle.std.proofs.Common.{◌≡◌, ◌-◌, ◌^◌, ◌∷◌, [], List, Some, None, codes, refl, negsuc, pos, arith}
 use Rattle.lk_report.specs.Spoken.{Rose}
 use Rattle.lk_outside.specs.declared.file_entries.FileEntry.{FileEntry}
 use Rattle.lk_outside.specs.Counts.{counted}

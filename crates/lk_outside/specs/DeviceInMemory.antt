@@ -6,7 +6,7 @@ use Rattle.lk_outside.specs.declared.devices.LengthAnswer.{LengthAnswer}
 use Rattle.lk_outside.specs.declared.devices.LengthAnswer.TheVariants as known
 use Rattle.lk_outside.specs.declared.calls.Calls.{Calls}
 use Rattle.lk_outside.specs.Counts.{counted, FailsNext, call_made, call_failed}
-use Rattle.lk_outside.specs.Disk.{Disk, Stored, patched}
+use Rattle.lk_outside.specs.Disk.{Disk, patched}
 
 -- the file's bytes, the ranges written in order, and the calls
 pub record DeviceInMemory : Type 0 where

@@ -1,5 +1,5 @@
 -- This project's own: input files held in memory, exactly.
-use Rattle.std.specs.Prelude.{◌≡◌, ◌++◌, ◌∷◌, [], ◌⊎◌, ◌==◌, ℕ, List, Option, Some, None, option_map, find}
+use Rattle.std.specs.Prelude.{◌≡◌, ◌++◌, ◌∷◌, [], ◌⊎◌, ℕ, List, Option, Some, None, option_map, find}
 use Rattle.std.specs.Str.{bytes_eq}
 use Rattle.lk_report.specs.FileMap.{FileRow, FileMap}
 use Rattle.lk_outside.specs.declared.files.StatAnswer.{StatAnswer}
