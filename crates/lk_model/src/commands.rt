@@ -1,6 +1,9 @@
 //! What the words of a command say.
 
-use lk_report::{List, Name, OptionRecord};
+ghost use Rattle.std.specs.Prelude.{◌≡◌, IfOk};
+
+use lk_report::{List, Name, NoMemory, OptionRecord, TryCopy};
+use std::alloc::Global;
 
 /// A command: where the output goes, how it is made, and the inputs in their order.
 #[derive(PartialEq, Eq, Debug, Drop)]
@@ -48,6 +51,25 @@ pub struct Word {
     pub library: bool,
     /// What the command says of its changes.
     pub mark: Mark,
+}
+
+impl Word {
+    /// An equal word.
+    pub fn copy(&self, alloc: Global) -> Result<Self, NoMemory>
+        ensures { IfOk result (λ c. c ≡ self.now) }
+    {
+        Ok(Word {
+            text: self.text.copy(alloc)?,
+            library: self.library,
+            mark: self.mark,
+        })
+    }
+}
+
+impl TryCopy for Word {
+    fn try_copy(&self, alloc: Global) -> Result<Self, NoMemory> {
+        self.copy(alloc)
+    }
 }
 
 /// What the command says of an input's changes.

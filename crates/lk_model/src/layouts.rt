@@ -1,8 +1,11 @@
 //! Where everything stands: output sections, pieces, slots, and the parts of a plan.
 
+ghost use Rattle.std.specs.Prelude.{◌≡◌, IfOk};
+
 use crate::records::ReferenceList;
 use crate::summaries::NumberList;
-use lk_report::{Cause, LimitFault, List, Name};
+use lk_report::{Cause, LimitFault, List, Name, NoMemory, TryCopy};
+use std::alloc::Global;
 
 /// What an output section holds, which decides its rights and its place.
 #[derive(Clone, Copy, PartialEq, Eq, Debug)]
@@ -30,6 +33,24 @@ pub enum Class {
 pub struct SectionKey {
     pub name: Name,
     pub class: Class,
+}
+
+impl SectionKey {
+    /// An equal key.
+    pub fn copy(&self, alloc: Global) -> Result<Self, NoMemory>
+        ensures { IfOk result (λ c. c ≡ self.now) }
+    {
+        Ok(SectionKey {
+            name: self.name.copy(alloc)?,
+            class: self.class,
+        })
+    }
+}
+
+impl TryCopy for SectionKey {
+    fn try_copy(&self, alloc: Global) -> Result<Self, NoMemory> {
+        self.copy(alloc)
+    }
 }
 
 /// What is placed in an output section. Names are numbered in their order.
@@ -85,6 +106,28 @@ pub struct SectionRow {
     /// The bytes that are reserved.
     pub room: u64,
     pub align: u64,
+}
+
+impl SectionRow {
+    /// An equal row.
+    pub fn copy(&self, alloc: Global) -> Result<Self, NoMemory>
+        ensures { IfOk result (λ c. c ≡ self.now) }
+    {
+        Ok(SectionRow {
+            key: self.key.copy(alloc)?,
+            addr: self.addr,
+            offset: self.offset,
+            size: self.size,
+            room: self.room,
+            align: self.align,
+        })
+    }
+}
+
+impl TryCopy for SectionRow {
+    fn try_copy(&self, alloc: Global) -> Result<Self, NoMemory> {
+        self.copy(alloc)
+    }
 }
 
 /// A placed piece.

@@ -18,3 +18,5 @@ pub mod laws;
 pub mod layouts;
 pub mod records;
 pub mod summaries;
+#[cfg(test)]
+mod tests;

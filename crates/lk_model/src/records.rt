@@ -1,8 +1,11 @@
 //! What an image records of its link, so that a later link can update it.
 
+ghost use Rattle.std.specs.Prelude.{◌≡◌, IfOk};
+
 use crate::layouts::Placement;
 use crate::summaries::InputSummary;
-use lk_report::{List, Name, OptionRecord, Stamp};
+use lk_report::{List, Name, NoMemory, OptionRecord, Stamp, TryCopy};
+use std::alloc::Global;
 
 /// A relocation of a kept piece through a symbol that is not LOCAL.
 #[derive(Clone, Copy, PartialEq, Eq, Debug)]
@@ -43,6 +46,25 @@ pub struct NameRow {
     pub name: Name,
     pub winner: u32,
     pub input: Option<u32>,
+}
+
+impl NameRow {
+    /// An equal row.
+    pub fn copy(&self, alloc: Global) -> Result<Self, NoMemory>
+        ensures { IfOk result (λ c. c ≡ self.now) }
+    {
+        Ok(NameRow {
+            name: self.name.copy(alloc)?,
+            winner: self.winner,
+            input: self.input,
+        })
+    }
+}
+
+impl TryCopy for NameRow {
+    fn try_copy(&self, alloc: Global) -> Result<Self, NoMemory> {
+        self.copy(alloc)
+    }
 }
 
 /// All that an image records of its link.

@@ -1,7 +1,9 @@
 //! What a link knows of an input once it was read: its pieces, symbols and groups.
 
+ghost use Rattle.std.specs.Prelude.{◌≡◌, IfOk};
+
 use crate::layouts::SectionKey;
-use lk_report::{List, Name};
+use lk_report::{List, Name, NoMemory, TryCopy};
 
 /// What a link keeps of an input, and records in its image.
 #[derive(PartialEq, Eq, Debug, Drop)]
@@ -45,6 +47,28 @@ pub struct PieceInfo {
     pub terminator: bool,
 }
 
+impl PieceInfo {
+    /// An equal piece.
+    pub fn copy(&self, alloc: std::alloc::Global) -> Result<Self, NoMemory>
+        ensures { IfOk result (λ c. c ≡ self.now) }
+    {
+        Ok(PieceInfo {
+            section: self.section,
+            name: self.name.copy(alloc)?,
+            key: self.key.copy(alloc)?,
+            size: self.size,
+            align: self.align,
+            terminator: self.terminator,
+        })
+    }
+}
+
+impl TryCopy for PieceInfo {
+    fn try_copy(&self, alloc: std::alloc::Global) -> Result<Self, NoMemory> {
+        self.copy(alloc)
+    }
+}
+
 /// A symbol that is not LOCAL, as its input has it (gABI, "Symbol Table").
 #[derive(PartialEq, Eq, Debug, Drop)]
 pub struct Global {
@@ -61,6 +85,30 @@ pub struct Global {
     pub value: u64,
     /// `st_size`, in bytes.
     pub size: u64,
+}
+
+impl Global {
+    /// An equal symbol.
+    pub fn copy(&self, alloc: std::alloc::Global) -> Result<Self, NoMemory>
+        ensures { IfOk result (λ c. c ≡ self.now) }
+    {
+        Ok(Global {
+            symbol: self.symbol,
+            name: self.name.copy(alloc)?,
+            binding: self.binding,
+            code: self.code,
+            visibility: self.visibility,
+            home: self.home,
+            value: self.value,
+            size: self.size,
+        })
+    }
+}
+
+impl TryCopy for Global {
+    fn try_copy(&self, alloc: std::alloc::Global) -> Result<Self, NoMemory> {
+        self.copy(alloc)
+    }
 }
 
 /// Where a symbol is defined.
@@ -103,6 +151,25 @@ pub struct Contribution {
     /// What the input is.
     pub kind: Kind,
     pub global: Global,
+}
+
+impl Contribution {
+    /// An equal contribution.
+    pub fn copy(&self, alloc: std::alloc::Global) -> Result<Self, NoMemory>
+        ensures { IfOk result (λ c. c ≡ self.now) }
+    {
+        Ok(Contribution {
+            input: self.input,
+            kind: self.kind,
+            global: self.global.copy(alloc)?,
+        })
+    }
+}
+
+impl TryCopy for Contribution {
+    fn try_copy(&self, alloc: std::alloc::Global) -> Result<Self, NoMemory> {
+        self.copy(alloc)
+    }
 }
 
 /// All symbols of one name, in adding order and symbol order.
