@@ -5,7 +5,6 @@ use Rattle.lk_elf.specs.Records.{ehdr_at, shdr_at, sym_at, rela_at}
 use Rattle.lk_model.specs.Elf.{section_headers_of, symbols_of, elf_with, elf_under, elf_of, name_at, section_name, symbol_name}
 use Rattle.lk_model.specs.Objects.{relas_under, relocations_in}
 use Rattle.lk_model.specs.Plain.{is_plain, is_plain_elf, made_names, counts_as_made}
-use Rattle.lk_model.specs.PlainLimits.{texts_size, recorded_texts, plain_image_length, image_length_of, is_linked_plain}
 use Rattle.lk_model.specs.RelocationTypes.{relocation_types, relocation_type_of, width_of}
 
 -- bytes with others in their place from `at` on
@@ -149,13 +148,3 @@ made :
     × (counts_as_made (codes "edata_") ≡ false)
 unfolding is_plain is_plain_elf made_names counts_as_made name_at section_name symbol_name section_headers_of symbols_of elf_with elf_under elf_of relas_under relocations_in relocation_types relocation_type_of width_of number_of num signed64 ehdr_at shdr_at sym_at rela_at
 made = (refl, refl, refl, refl, refl, refl, refl, refl, refl, refl, refl, refl)
-
--- the length of images: the smallest, and one whose names share their bytes in the file
-lengths :
-    (plain_image_length 0 1 (texts_size (recorded_texts (codes "a.o") (codes "_start" ∷ []))) ≡ 9192)
-    × (image_length_of (codes "a.o") (elf_of plain) ≡ 9240)
-    × (is_linked_plain (codes "a.o") plain ≡ true)
-    × (texts_size (codes "abc" ∷ codes "bc" ∷ codes "abc" ∷ codes "c" ∷ []) ≡ 9)
-    × (plain_image_length 0 (2 ^ 10) (2 ^ 29) ≡ 536920992)
-unfolding plain_image_length image_length_of is_linked_plain is_plain is_plain_elf made_names counts_as_made name_at section_name symbol_name section_headers_of symbols_of elf_with elf_under elf_of relas_under relocations_in relocation_types relocation_type_of width_of number_of num signed64 ehdr_at shdr_at sym_at rela_at
-lengths = (refl, refl, refl, refl, refl)

@@ -22,7 +22,7 @@ use Rattle.lk_model.specs.Kinds.{kind_of}
 use Rattle.lk_model.specs.Links.{resolved_of}
 use Rattle.lk_model.specs.ObjectChecks.{object_fault}
 use Rattle.lk_model.specs.Overflows.{overflow_faults}
-use Rattle.lk_model.specs.PlainLimits.{is_linked_plain}
+use Rattle.lk_model.specs.Plain.{is_plain}
 use Rattle.lk_model.specs.ResolveFaults.{resolve_faults, name_count}
 use Rattle.lk_model.specs.ScanFaults.{scan_faults}
 use Rattle.lk_model.specs.Segments.{program_headers}
@@ -197,17 +197,21 @@ abbrev pub is_no_elf : Result Kind InputFault → Bool
 is_no_elf (Ok k) = false
 is_no_elf (Err f) = elim f [ input_fault.NotElf ↦ true | _ ↦ false ]
 
+-- the answer of a plain object's link; one that exceeds a limit waits like any other form
+abbrev pub limited_answer : Resolved → List ℕ → Status
+limited_answer r path =
+    elim (placement_limit r (full_place r)) [
+      | Some s ↦ status.NotYet (waiting.Form path)
+      | None ↦ elim (fault_status (scan_faults r)) [
+        | Some s ↦ s
+        | None ↦ elim (fault_status (overflow_faults r (full_place r))) [ Some s ↦ s | None ↦ full_link ]
+      ]
+    ]
+
 abbrev pub plain_answer : Command → FileMap → List ℕ → List ℕ → Status
 plain_answer c files path bytes =
     if is_no_elf (kind_of bytes) then status.LinkError (fault.Input path input_fault.NotElf ∷ [])
-    else (if is_linked_plain path bytes then
-    (let r = resolved_of c files in
-    elim (fault_status (scan_faults r)) [
-      | Some s ↦ s
-      | None ↦
-          elim (fault_status (overflow_faults r (full_place r))) [ Some s ↦ s | None ↦ full_link ]
-    ])
-    else status.NotYet (waiting.Form path))
+    else (if is_plain bytes then limited_answer (resolved_of c files) path else status.NotYet (waiting.Form path))
 
 -- the command that the four words are
 abbrev pub accepted_command : List (List ℕ) → Option Command

@@ -1,11 +1,11 @@
 -- This project's own: when a placement is one that a link of these inputs may have, made anew or kept
 -- up to date. A row without a piece may be left over from an earlier link.
-use Rattle.std.specs.Prelude.{◌≡◌, ℕ, Bool, true, false, IsTrue, if◌then◌else◌, List, [], ◌∷◌, Option, Some, None, ◌+◌, ◌%◌, ◌==◌, ◌&&◌, ◌||◌, not, nat_le, take, map, filter, zip, count_by, ⊤}
+use Rattle.std.specs.Prelude.{is_some, ◌≡◌, ℕ, Bool, true, false, IsTrue, if◌then◌else◌, List, [], ◌∷◌, Option, Some, None, ◌+◌, ◌%◌, ◌==◌, ◌&&◌, ◌||◌, not, nat_le, take, map, filter, zip, count_by, ⊤}
 use Rattle.std.specs.List.{AllByRecursion, IsDistinct, enumerate_from, list_all, list_any, slice_get}
-use Rattle.lk_model.specs.SectionKeys.{same_key, same_class, is_alloc, in_file, is_patched, is_numbered_array, least_of, reserved_of}
+use Rattle.lk_model.specs.SectionKeys.{same_key, is_table, same_class, is_alloc, in_file, is_patched, is_numbered_array, least_of, reserved_of}
 use Rattle.lk_model.specs.SectionOrder.{in_order, table_sizes}
 use Rattle.lk_model.specs.Rooms.{sequence_end, sequence_of}
-use Rattle.lk_model.specs.FullPlace.{Extent, pieces_in, table_size, rows_of, offset_in_sequence}
+use Rattle.lk_model.specs.FullPlace.{Extent, extent_of, pieces_in, table_size, rows_of, offset_in_sequence}
 use Rattle.lk_model.specs.Holes.{holes_of}
 use Rattle.lk_model.specs.Keys.{same_got, is_slot_of}
 use Rattle.lk_model.specs.Views.{KeptPiece, Resolved}
@@ -113,6 +113,15 @@ size_of r slots row = size_with (table_size r slots row.key) r row
 abbrev pub extent_of_row : SectionRow → Extent
 extent_of_row row = record { key = row.key; size = row.size; room = row.room; align = row.align }
 
+-- whether a row is no table that the link does not make; a kept piece may have a table's name
+abbrev pub is_no_strange_table : Resolved → SlotTable → SectionRow → Bool
+is_no_strange_table r slots row =
+    not (is_table row.key) || is_some (table_size r slots row.key) || list_any (λ (piece : KeptPiece). same_key piece.key row.key) r.kept
+
+-- whether a row is aligned to what its pieces ask for, and to 16
+abbrev pub is_aligned_enough : Resolved → SlotTable → SectionRow → Bool
+is_aligned_enough r slots row = nat_le (extent_of r slots row.key).align row.align
+
 pub record Lawful (r : Resolved) (place : Placement) : Type 0 where
   -- the placed pieces are exactly the kept ones
   pub kept : map as_placed place.pieces ≡ map as_kept r.kept
@@ -140,6 +149,10 @@ pub record Lawful (r : Resolved) (place : Placement) : Type 0 where
   pub sizes : AllByRecursion (λ (row : SectionRow). IsTrue (row.size == size_of r place.slots row && nat_le row.size row.room)) place.sections
   -- the tables are there
   pub tables : AllByRecursion (λ (table : SectionKey × ℕ). IsTrue (list_any (λ (row : SectionRow). same_key row.key table.0) place.sections)) (table_sizes r place.slots)
+  -- no other table is there
+  pub no_other_tables : AllByRecursion (λ (row : SectionRow). IsTrue (is_no_strange_table r place.slots row)) place.sections
+  -- each section is aligned at least to the greatest alignment of its pieces, and to 16
+  pub alignments : AllByRecursion (λ (row : SectionRow). IsTrue (is_aligned_enough r place.slots row)) place.sections
   -- the rooms of loaded sections share no address; the thread-local zeros take none
   pub addresses_share_nothing : Pairs (λ a b. IsTrue (addresses_apart a b)) (filter (λ (row : SectionRow). is_alloc row.key.class && not (same_class row.key.class Tbss)) place.sections)
   -- the rooms that the file holds share no byte of it

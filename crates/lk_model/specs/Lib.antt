@@ -53,6 +53,5 @@ pub mod Plain
 pub mod Links
 pub mod Overflows
 pub mod Answers
-pub mod PlainLimits
 pub mod Finding
 pub mod StretchLaws
