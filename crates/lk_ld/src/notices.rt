@@ -1,0 +1,40 @@
+//! The texts that are asked for by a word of their own.
+
+use lk_report::NameList;
+
+/// What `--help` prints.
+const HELP: &str = "\
+usage: lk_ld --incremental-full -o OUT IN
+       lk_ld --help | --version
+
+Links the x86-64 object file IN into a program, and writes it to OUT.
+
+IN is a relocatable ELF file with one `.text`, its relocations (R_X86_64_64,
+PC32, PC64) and symbols, and nothing else that is loaded; it defines `_start`.
+Other words and other files are answered with `not built yet`.
+
+One line on standard output says how the link ended, and the exit status is
+0 linked                  3 a file cannot be read     6 a limit is exceeded
+1 faults of the input     4 the output failed         7 not updated
+2 faulty words            5 no memory                 8 not built yet
+Where the system refused a file, standard error has its reason.
+";
+
+/// What `--version` prints.
+const VERSION: &str = "lk_ld 0.1.0, an incremental linker for x86-64 ELF\n";
+
+/// The text that the words ask for, where `--help` or `--version` is the only word.
+pub fn notice_of(words: &NameList) -> Option<&'static str> {
+    match words.as_slice() {
+        [word] => {
+            if word.as_slice() == b"--help".as_slice() {
+                Some(HELP)
+            } else if word.as_slice() == b"--version".as_slice() {
+                Some(VERSION)
+            } else {
+                None
+            }
+        }
+        _ => None,
+    }
+}
