@@ -22,6 +22,8 @@ mod image_header;
 mod image_tests;
 mod inputs;
 mod kinds;
+#[cfg(test)]
+mod link_tests;
 mod made_names;
 #[cfg(test)]
 mod outer_tests;
