@@ -31,6 +31,61 @@ def answer_of_header_byte(place):
     return LINKED
 
 
+# The sections of a plain object after the null one: type and name.
+PLAIN = [(1, b".text"), (4, b".rela.text"), (2, b".symtab"), (3, b".strtab"), (3, b".shstrtab")]
+
+
+def text_at(section, offset):
+    """The text at an offset of a string section, or None where no zero ends it there."""
+    end = section.find(0, offset)
+    return section[offset:end] if end >= 0 else None
+
+
+def are_plain_sections(data, headers, bodies):
+    """Types, names, places, alignments and flags of the five sections."""
+    for number, (code, name) in enumerate(PLAIN):
+        head = headers[number]
+        if head[1] != code or head[4] + head[5] > len(data) or head[8] not in (0, 1, 2, 4, 8, 16):
+            return False
+        if text_at(bodies[4], head[0]) != name:
+            return False
+        if head[2] != 6 if number == 0 else head[2] & 0x802:
+            return False
+    return True
+
+
+def are_plain_symbols(body, first, names):
+    """The symbols after the null one, and that `_start` is defined in section 1."""
+    found = []
+    for number in range(1, len(body) // 24):
+        offset, info, _, home, _, _ = struct.unpack_from("<IBBHQQ", body, 24 * number)
+        name = text_at(names, offset)
+        if name is None or info % 16 > 4 or home not in ((1, 0xFFF1) if number < first else (0, 1, 0xFFF1)):
+            return False
+        if info // 16 != (0 if number < first else 1) or (number >= first and not name):
+            return False
+        if number >= first:
+            found.append((name, home))
+    return (b"_start", 1) in found and len({name for name, _ in found}) == len(found)
+
+
+def answer_of_sections(data):
+    """The answer of an object without relocations whose file header is good, by the rules."""
+    at = struct.unpack_from("<Q", data, 40)[0]
+    headers = [struct.unpack_from("<IIQQQQIIQQ", data, at + 64 * k) for k in range(1, 6)]
+    bodies = [data[head[4] : head[4] + head[5]] for head in headers]
+    relas, symbols = headers[1], headers[2]
+    plain = (
+        are_plain_sections(data, headers, bodies)
+        and (relas[9], relas[5], relas[6], relas[7]) == (24, 0, 3, 1)
+        and (symbols[9], symbols[5] % 24, symbols[6]) == (24, 0, 4)
+        and 0 < symbols[5]
+        and symbols[7] <= symbols[5] // 24
+        and are_plain_symbols(bodies[2], symbols[7], bodies[3])
+    )
+    return LINKED if plain else WAITS
+
+
 class Table:
     """Runs the linker on files and counts what was not as it must be."""
 
@@ -81,7 +136,8 @@ def main(linker, path, folder):
             wanted = LINKED if same else answer_of_header_byte(place)
             table.wants(f"byte {place} set to {value}", changed(good, place, value), [wanted])
         for place in range(headers, headers + 6 * 64):
-            table.wants(f"byte {place} set to {value}", changed(good, place, value), [LINKED, WAITS])
+            bad = changed(good, place, value)
+            table.wants(f"byte {place} set to {value}", bad, [answer_of_sections(bad)])
     table.wants("64 MiB and a byte", good + bytes(64 * 2**20 + 1 - len(good)), [WAITS])
     for line in table.wrong:
         print(f"hostile: {line}")
