@@ -5,6 +5,7 @@ ghost use Rattle.lk_report.specs.Spoken.{Spoken};
 
 use super::*;
 use std::alloc::Global;
+use std::collections::HashSet;
 use std::process::Abort;
 use std::test::Fail;
 
@@ -317,5 +318,18 @@ fn each_status_has_its_exit_code(rt: HostRuntime) -> Result<(), Fail> {
     expect_code(&rt, Status::Limit(limit), 6);
     expect_code(&rt, Status::NotUpdated(Cause::NoBase), 7);
     expect_code(&rt, Status::NotYet(Waiting::Words), 8);
+    Ok(())
+}
+
+#[test]
+fn names_are_found_by_hash(rt: HostRuntime) -> Result<(), NoMemory> {
+    let alloc = rt.alloc();
+    let mut seen: HashSet<Name> = HashSet::new(alloc);
+    let first = seen.insert(Name::from_slice(alloc, b"f")?);
+    let other = seen.insert(Name::from_slice(alloc, b"g")?);
+    let again = seen.insert(Name::from_slice(alloc, b"f")?);
+    assert!(rt; matches!(first, Ok(true)));
+    assert!(rt; matches!(other, Ok(true)));
+    assert!(rt; matches!(again, Ok(false)));
     Ok(())
 }
