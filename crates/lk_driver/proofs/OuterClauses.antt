@@ -1,6 +1,6 @@
 -- From what the input, its link and the device did to the clauses of the top call.
-use Rattle.std.proofs.Common.{◌≡◌, ℕ, Bool, List, [], ◌∷◌, Option, Some, None, refl, sym, ap, subst}
-use Rattle.std.specs.Prelude.{IfSome, MatchOption, if◌then◌else◌}
+use Rattle.std.proofs.Common.{◌≡◌, ℕ, Bool, List, [], ◌∷◌, Option, Some, None, refl, sym, ap, subst, inl, inr}
+use Rattle.std.specs.Prelude.{IfSome, MatchOption, option_map, if◌then◌else◌}
 use Rattle.std.specs.List.{list_any}
 use Rattle.std.specs.Str.{bytes_eq}
 use Rattle.std.proofs.lemmas.Slice.Eq.{bytes_eq-Decides}
@@ -19,7 +19,7 @@ use Rattle.lk_model.specs.declared.commands.Command.{Command}
 use Rattle.lk_outside.specs.Disk.{Disk, Stored}
 use Rattle.lk_outside.specs.Held.{Held, Known}
 use Rattle.lk_driver.specs.InputReading.{InputGives}
-use Rattle.lk_driver.specs.Outer.{HasRow, InputAnswers, IsImageOf, BytesLinked, Follows, IsMissing, IsUnread, AnswerIs, IsDue, IsImage, DoneLeaves, MissingTold, MissesTold, WordsFirst, is_missing}
+use Rattle.lk_driver.specs.Outer.{HasRow, InputAnswers, IsImageOf, BytesLinked, Follows, IsMissing, IsUnread, AnswerIs, IsDue, IsImage, DoneLeaves, MissingTold, MissesTold, WordsFirst, AskedFor, FilesKept, asked_before, is_missing}
 use Rattle.lk_driver.specs.PlainLink.{plain_command}
 use Rattle.lk_driver.specs.declared.inputs.InputAnswer.{InputAnswer}
 use Rattle.lk_driver.specs.declared.inputs.InputAnswer.TheVariants as input
@@ -205,6 +205,58 @@ four-words-missing-at path old new before after (status.NotYet x) input.NoMemory
 pub four-words-missing : (path : List ℕ) (old new : Held) (before after : Disk) (s : Status)
     → (a : InputAnswer) × InputGives old path a new × Follows path a before s after → MissingTold old s new
 four-words-missing path old new before after s h = four-words-missing-at path old new before after s h.0 h.1 h.2
+
+-- ---- what the files were asked for
+
+four-words-asked-at : (path : List ℕ) (old new : Held) (before after : Disk) (s : Status) (a : InputAnswer) → InputGives old path a new → Follows path a before s after
+    → AskedFor path s old.known new.known
+four-words-asked-at path old new before after (status.LinkError x) (input.Found stamp bytes) g f =
+    let P : Bool → Type 0 = λ b. new.known ≡ option_map (asked_before b path) old.known in
+    subst P (sym (told-of-bytes path bytes stamp (status.LinkError x) f.0)) g.0
+four-words-asked-at path old new before after (status.LinkError x) input.Missing g f =
+    let P : List Fault → Type 0 = λ xs. new.known ≡ option_map (asked_before (list_any is_missing xs) path) old.known in
+    subst P (sym f.0) g.0
+four-words-asked-at path old new before after (status.LinkError x) input.Failed g f = absurd f.0
+four-words-asked-at path old new before after (status.LinkError x) input.NoMemory g f = absurd (cc f.0)
+four-words-asked-at path old new before after (status.ReadFault x) (input.Found stamp bytes) g f = absurd f.0
+four-words-asked-at path old new before after (status.ReadFault x) input.Missing g f = absurd f.0
+four-words-asked-at path old new before after (status.ReadFault x) input.Failed g f = g.0
+four-words-asked-at path old new before after (status.ReadFault x) input.NoMemory g f = absurd (cc f.0)
+four-words-asked-at path old new before after status.NoMemory (input.Found stamp bytes) g f = inl (inr (inr g.0))
+four-words-asked-at path old new before after status.NoMemory input.Missing g f = inl (inr (inl g.0))
+four-words-asked-at path old new before after status.NoMemory input.Failed g f = inr g.0
+four-words-asked-at path old new before after status.NoMemory input.NoMemory g f = inl g.0
+four-words-asked-at path old new before after (status.Done x) (input.Found stamp bytes) g f = g.0
+four-words-asked-at path old new before after (status.Done x) input.Missing g f = absurd f.0
+four-words-asked-at path old new before after (status.Done x) input.Failed g f = absurd f.0
+four-words-asked-at path old new before after (status.Done x) input.NoMemory g f = absurd (cc f.0)
+four-words-asked-at path old new before after (status.Usage x) (input.Found stamp bytes) g f = g.0
+four-words-asked-at path old new before after (status.Usage x) input.Missing g f = absurd f.0
+four-words-asked-at path old new before after (status.Usage x) input.Failed g f = absurd f.0
+four-words-asked-at path old new before after (status.Usage x) input.NoMemory g f = absurd (cc f.0)
+four-words-asked-at path old new before after status.DeviceFault (input.Found stamp bytes) g f = g.0
+four-words-asked-at path old new before after status.DeviceFault input.Missing g f = absurd f.0
+four-words-asked-at path old new before after status.DeviceFault input.Failed g f = absurd f.0
+four-words-asked-at path old new before after status.DeviceFault input.NoMemory g f = absurd (cc f.0)
+four-words-asked-at path old new before after (status.Limit x) (input.Found stamp bytes) g f = g.0
+four-words-asked-at path old new before after (status.Limit x) input.Missing g f = absurd f.0
+four-words-asked-at path old new before after (status.Limit x) input.Failed g f = absurd f.0
+four-words-asked-at path old new before after (status.Limit x) input.NoMemory g f = absurd (cc f.0)
+four-words-asked-at path old new before after (status.NotUpdated x) (input.Found stamp bytes) g f = g.0
+four-words-asked-at path old new before after (status.NotUpdated x) input.Missing g f = absurd f.0
+four-words-asked-at path old new before after (status.NotUpdated x) input.Failed g f = absurd f.0
+four-words-asked-at path old new before after (status.NotUpdated x) input.NoMemory g f = absurd (cc f.0)
+four-words-asked-at path old new before after (status.NotYet x) (input.Found stamp bytes) g f = g.0
+four-words-asked-at path old new before after (status.NotYet x) input.Missing g f = absurd f.0
+four-words-asked-at path old new before after (status.NotYet x) input.Failed g f = absurd f.0
+four-words-asked-at path old new before after (status.NotYet x) input.NoMemory g f = absurd (cc f.0)
+
+pub four-words-kept : (words : List (List ℕ)) (output path : List ℕ) → four_words words ≡ Some (output, path)
+    → (old new : Held) (before after : Disk) (s : Status) → (a : InputAnswer) × InputGives old path a new × Follows path a before s after
+    → FilesKept (four_words words) s old new
+four-words-kept words output path four old new before after s h =
+    let P : Option (List ℕ × List ℕ) → Type 0 = λ o. FilesKept o s old new in
+    subst P (sym four) (four-words-asked-at path old new before after s h.0 h.1 h.2)
 
 -- ---- the words come first
 

@@ -1,7 +1,7 @@
 -- What a link may answer and what it does to the outside (this project's own): the clauses of the top
 -- call, over the input files and the output device before and after it. The link itself is said by the
 -- general definitions: `first_answer` and `IsFullLink`.
-use Rattle.std.specs.Prelude.{◌≡◌, ◌⊎◌, ◌++◌, ◌∷◌, [], ℕ, List, Bool, true, false, Option, Some, None, Result, Ok, Err, IfSome, MatchOption}
+use Rattle.std.specs.Prelude.{◌≡◌, ◌⊎◌, ◌∷◌, [], ℕ, List, Bool, true, false, Option, Some, None, Result, Ok, Err, IfSome, MatchOption, option_map}
 use Rattle.std.specs.List.{list_any}
 use Rattle.lk_report.specs.FileMap.{FileMap}
 use Rattle.lk_report.specs.Spoken.{Rose}
@@ -17,6 +17,7 @@ use Rattle.lk_model.specs.Grammar.{four_words}
 use Rattle.lk_model.specs.Links.{IsFullLink}
 use Rattle.lk_outside.specs.Disk.{Disk}
 use Rattle.lk_outside.specs.Held.{Held, Known}
+use Rattle.lk_driver.specs.InputReading.{looked_up, looked_up_and_read, AskedSoFar, AskedInVain}
 use Rattle.lk_driver.specs.PlainLink.{plain_command}
 use Rattle.lk_driver.specs.declared.inputs.InputAnswer.{InputAnswer}
 use Rattle.lk_driver.specs.declared.inputs.InputAnswer.TheVariants as input
@@ -148,23 +149,27 @@ DeviceKept old (status.Done how) new = Unit {0}
 DeviceKept old status.DeviceFault new = Unit {0}
 DeviceKept old other new = new ≡ old
 
--- the path was given at most once more
-abbrev pub AtMostOnce : List ℕ → List (List ℕ) → List (List ℕ) → Type 0
-AtMostOnce path old new = (new ≡ old) ⊎ (new ≡ old ++ path ∷ [])
+-- what the files were asked for before faults of the input are told: an input that is missing was looked
+-- up alone
+abbrev pub asked_before : Bool → List ℕ → Known → Known
+asked_before true path k = looked_up path k
+asked_before false path k = looked_up_and_read path k
 
--- the map is as it was, and only this path was looked up and read
-abbrev pub OnlyAskedFor : List ℕ → Option Known → Option Known → Type 0
-OnlyAskedFor path None None = Unit {0}
-OnlyAskedFor path (Some old) (Some new) =
-    (new.map ≡ old.map) × AtMostOnce path old.stats new.stats × AtMostOnce path old.reads new.reads
-OnlyAskedFor path None (Some new) = ⊥
-OnlyAskedFor path (Some old) None = ⊥
+-- the path was looked up once and then read once, and nothing else of the files changed. But a missing
+-- input was not read, a read fault came with the look-up or the read, and want of memory may have come
+-- at any place.
+abbrev pub AskedFor : List ℕ → Status → Option Known → Option Known → Type 0
+AskedFor path (status.LinkError faults) old new =
+    new ≡ option_map (asked_before (list_any is_missing faults) path) old
+AskedFor path (status.ReadFault name) old new = AskedInVain path old new
+AskedFor path status.NoMemory old new = AskedSoFar path old new ⊎ AskedInVain path old new
+AskedFor path other old new = new ≡ option_map (looked_up_and_read path) old
 
--- the files keep their map, and only the IN of the words is looked up and read, each at most once; other
--- words ask for nothing
-abbrev pub FilesKept : Option (List ℕ × List ℕ) → Held → Held → Type 0
-FilesKept None old new = new ≡ old
-FilesKept (Some words) old new = OnlyAskedFor words.1 old.known new.known
+-- the files keep their map, and only the IN of the words is asked for, as often as the answer tells;
+-- other words ask for nothing
+abbrev pub FilesKept : Option (List ℕ × List ℕ) → Status → Held → Held → Type 0
+FilesKept None s old new = new ≡ old
+FilesKept (Some words) s old new = AskedFor words.1 s old.known new.known
 
 -- words that are not the four are told before anything of the outside is asked for
 abbrev pub WordsFirst : Option (List ℕ × List ℕ) → Status → Type 0

@@ -40,7 +40,7 @@ pub fn run_alone<F: Files, D: Device, S: Sink, G: Turnstile>(
     ensures device_fault { DeviceFaultTold (D.disk out.old) result (D.disk out.new) }
     ensures missing { MissingTold (F.held files.old) result (F.held files.new) }
     ensures untouched { DeviceKept (D.disk out.old) result (D.disk out.new) }
-    ensures files_kept { FilesKept (words_of words.now) (F.held files.old) (F.held files.new) }
+    ensures files_kept { FilesKept (words_of words.now) result (F.held files.old) (F.held files.new) }
     ensures said { Says (S.spoken says.old) (S.spoken says.new) (text_of result) }
 {
     let status = link(alloc, words, files, out);
@@ -57,7 +57,7 @@ fn link<F: Files, D: Device>(alloc: Global, words: &NameList, files: &mut F, out
     ensures device_fault { DeviceFaultTold (D.disk out.old) result (D.disk out.new) }
     ensures missing { MissingTold (F.held files.old) result (F.held files.new) }
     ensures untouched { DeviceKept (D.disk out.old) result (D.disk out.new) }
-    ensures files_kept { FilesKept (words_of words.now) (F.held files.old) (F.held files.new) }
+    ensures files_kept { FilesKept (words_of words.now) result (F.held files.old) (F.held files.new) }
 {
     match four_words(words) {
         Some(four) => link_file(alloc, four.input, files, out),

@@ -1,8 +1,7 @@
 //! The table of the texts that an image's records name, filled in order of first use and looked up by
 //! hash.
 
-ghost use Rattle.std.specs.Prelude.{◌≡◌, ◌+◌, [], ◌∷◌, ◌++◌, length, OnOk, IfOk};
-ghost use Rattle.std.specs.Option.{IfSome};
+ghost use Rattle.std.specs.Prelude.{◌≡◌, ◌+◌, ◌^◌, ◌≤◌, [], ◌∷◌, ◌++◌, length, OnOk, IfOk, MatchOption};
 ghost use Rattle.lk_model.specs.Texts.{ended, with_text, table_bytes, offset_in};
 
 use crate::appending::put_bytes;
@@ -94,7 +93,7 @@ impl<'a> TextTable<'a> {
 
 /// Where a text ends that begins at a place, with its closing zero.
 fn end_after(start: u64, text: &[u8]) -> Option<u64>
-    ensures { IfSome result (λ n. n ≡ start + length text.now + 1) }
+    ensures { MatchOption result (2 ^ 64 ≤ start + length text.now + 1) (λ n. n ≡ start + length text.now + 1) }
 {
     start.checked_add(text.len() as u64)?.checked_add(1)
 }

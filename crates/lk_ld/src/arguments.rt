@@ -1,13 +1,15 @@
 //! The words of the command, from the program's arguments.
 
-ghost use Rattle.std.specs.Prelude.{◌≡◌, IfOk, map, drop, string_bytes};
+ghost use Rattle.std.specs.Prelude.{◌≡◌, IfOk, MatchResult, map, drop, string_bytes};
+ghost use Rattle.std.specs.IoError.{error_kind};
 ghost use Rattle.std.specs.Vec.Iter.{into_iter_items};
+ghost use Rattle.lk_ld.specs.Arguments.{AreWords, untold};
 
 use lk_report::{List, Name, NameList, NoMemory};
 use std::alloc::Global;
 use std::env::Args;
+use std::io;
 use std::io::ErrorKind;
-use std::{env, io};
 
 /// What the arguments are.
 #[derive(Drop)]
@@ -20,10 +22,12 @@ pub enum Arguments {
     NoMemory,
 }
 
-/// The words after the program's name.
-pub fn arguments_of(rt: HostRuntime) -> Arguments {
-    match env::args(&rt) {
-        Ok(all) => match words_of(rt.alloc(), all) {
+/// What the program's arguments are, by what the system told of them.
+pub fn arguments_of(alloc: Global, told: io::Result<Args>) -> Arguments
+    ensures { MatchResult told (λ all. AreWords (map string_bytes (drop 1 (into_iter_items all))) result) (λ error. result ≡ untold (error_kind error)) }
+{
+    match told {
+        Ok(all) => match words_of(alloc, all) {
             Ok(words) => Arguments::Words(words),
             Err(NoMemory) => Arguments::NoMemory,
         },
@@ -32,11 +36,12 @@ pub fn arguments_of(rt: HostRuntime) -> Arguments {
 }
 
 /// Why the arguments could not be had.
-fn unread(error: io::Error) -> Arguments {
-    if error.kind() == ErrorKind::OutOfMemory {
-        Arguments::NoMemory
-    } else {
-        Arguments::NoText
+fn unread(error: io::Error) -> Arguments
+    ensures { result ≡ untold (error_kind error) }
+{
+    match error.kind() {
+        ErrorKind::OutOfMemory => Arguments::NoMemory,
+        _ => Arguments::NoText,
     }
 }
 

@@ -14,11 +14,12 @@ use lk_driver::{output_of, run_alone};
 use lk_outside::{FreeTurnstile, HostDevice, HostFiles, HostSink};
 use lk_report::{NameList, Status, Waiting, say};
 use notices::notice_of;
-use reasons::say_reasons;
+use reasons::{Reason, reasons_of, text_of};
+use std::env;
 use std::process::ExitCode;
 
 fn main(rt: HostRuntime) -> ExitCode {
-    match arguments_of(rt) {
+    match arguments_of(rt.alloc(), env::args(&rt)) {
         Arguments::Words(words) => match notice_of(&words) {
             Some(notice) => say_notice(rt, notice),
             None => link(rt, &words),
@@ -44,7 +45,9 @@ fn link(rt: HostRuntime, words: &NameList) -> ExitCode {
         &mut says,
         &FreeTurnstile,
     );
-    say_reasons(rt, words, files.last_error(), out.last_error());
+    let reasons = reasons_of(words, files.last_error(), out.last_error());
+    say_reason(rt, reasons.read);
+    say_reason(rt, reasons.written);
     ExitCode::from(status.exit_code())
 }
 
@@ -58,4 +61,12 @@ fn end(rt: HostRuntime, status: &Status) -> ExitCode {
 fn say_notice(rt: HostRuntime, notice: &str) -> ExitCode {
     let _printed = print!(rt; "{notice}");
     ExitCode::SUCCESS
+}
+
+/// Prints an error of the system on the standard error, where there is one.
+fn say_reason(rt: HostRuntime, reason: Option<Reason>) {
+    if let Some(Reason { path, error }) = reason {
+        let path = text_of(path);
+        let _printed = eprintln!(rt; "lk_ld: {path}: {error}");
+    }
 }

@@ -1,5 +1,8 @@
 //! The texts that are asked for by a word of their own.
 
+ghost use Rattle.std.specs.Prelude.{◌≡◌, option_map};
+ghost use Rattle.lk_ld.specs.Notices.{notice_in};
+
 use lk_report::NameList;
 
 /// What `--help` prints.
@@ -24,7 +27,9 @@ Where the system refused a file, standard error has its reason.
 const VERSION: &str = "lk_ld 0.1.0, an incremental linker for x86-64 ELF\n";
 
 /// The text that the words ask for, where `--help` or `--version` is the only word.
-pub fn notice_of(words: &NameList) -> Option<&'static str> {
+pub fn notice_of(words: &NameList) -> Option<&'static str>
+    ensures { option_map (λ text. text.now) result ≡ notice_in words.now }
+{
     match words.as_slice() {
         [word] => {
             if word.as_slice() == b"--help".as_slice() {

@@ -1,7 +1,7 @@
 use Rattle.std.proofs.Common.{◌∙◌, sym, ap}
 use Rattle.std.specs.Prelude.{ℕ, List, option_map}
 use Rattle.lk_driver.specs.declared.words.FourWords.{FourWords}
-use Rattle.lk_driver.proofs.OuterClauses.{four-words-first, four-words-due, four-words-done, four-words-missing, other-words-due}
+use Rattle.lk_driver.proofs.OuterClauses.{four-words-first, four-words-due, four-words-done, four-words-missing, four-words-kept, other-words-due}
 use Rattle.lk_driver.proofs.PlainWords.{whole-input}
 use Rattle.lk_driver.proofs.run.link.Goals as goal
 
@@ -26,6 +26,10 @@ returns-in-Some-clause-done g c =
 
 pub returns-in-Some-clause-missing : goal.returns-in-Some-clause-missing
 returns-in-Some-clause-missing g c = four-words-missing _ _ _ _ _ _ c.link_file.ensures
+
+pub returns-in-Some-clause-files_kept : goal.returns-in-Some-clause-files_kept
+returns-in-Some-clause-files_kept g c =
+    four-words-kept _ _ _ (sym c.four_words.ensures ∙ ap (option_map out_and_in) c.in-Some.is) _ _ _ _ _ c.link_file.ensures
 
 pub returns-in-None-clause-answer : goal.returns-in-None-clause-answer
 returns-in-None-clause-answer g c =

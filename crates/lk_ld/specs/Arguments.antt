@@ -1,0 +1,17 @@
+-- This project's own: what the program's arguments come to.
+use Rattle.std.specs.Prelude.{◌≡◌, ℕ, List}
+use Rattle.std.specs.declared.io.ErrorKind.{ErrorKind}
+use Rattle.std.specs.declared.io.ErrorKind.TheVariants as kind
+use Rattle.lk_ld.specs.declared.arguments.Arguments.{Arguments}
+use Rattle.lk_ld.specs.declared.arguments.Arguments.TheVariants as arguments
+
+-- arguments that the system told come to these words, or to want of memory for their list
+abbrev pub AreWords : List (List ℕ) → Arguments → Type 0
+AreWords words (arguments.Words list) = list ≡ words
+AreWords words arguments.NoText = ⊥
+AreWords words arguments.NoMemory = Unit {0}
+
+-- what an answer of the system without arguments comes to
+abbrev pub untold : ErrorKind → Arguments
+untold kind.OutOfMemory = arguments.NoMemory
+untold _ = arguments.NoText
