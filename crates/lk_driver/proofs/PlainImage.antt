@@ -11,7 +11,7 @@ use Rattle.lk_model.specs.Elf.{bytes_under}
 use Rattle.lk_model.specs.FileHeader.{entry_value, exec_stack_of, file_header, header_bytes}
 use Rattle.lk_model.specs.FullPlace.{tail_start}
 use Rattle.lk_model.specs.Holes.{hole_between, hole_bytes, fill_bytes}
-use Rattle.lk_model.specs.Images.{seal, seal_offset, stretch, row_stretches, part_stretch, stretches_of, hole_stretch}
+use Rattle.lk_model.specs.Images.{seal, seal_offset, stretch, row_stretches, part_stretch, stretches_of, stretches_with, hole_stretch}
 use Rattle.lk_model.specs.LinkedBytes.{with_fields, is_reference_in, linked_bytes}
 use Rattle.lk_model.specs.Objects.{piece_bytes_in, relocations_in}
 use Rattle.lk_model.specs.SectionKeys.{is_patched, fill_kind, header_type}
@@ -133,14 +133,6 @@ unfolding header_bytes file_header plain_header_bytes plain_place
 headers-are path stamp elf inputs texts = rw (no-exec-stack path stamp elf, plain-headers elf, headers-stand elf inputs texts) refl
 
 -- ---- the image
-
--- the stretches of an image by its parts, the last with their places and its rooms
-abbrev stretches_with : Resolved → Placement → List Part → List Stretch
-stretches_with r place parts =
-    stretch 0 (header_bytes r place parts) ∷ stretch seal_offset seal
-    ∷ flat_map (row_stretches r place) (enumerate_from 0 place.sections)
-    ++ map part_stretch (parts_from (tail_start place) parts)
-    ++ stretch (headers_offset place parts) (flat_map shdr_bytes (section_headers place parts)) ∷ []
 
 -- the stretches of a plain link by its headers, its rooms, and its tail
 abbrev assembled : List ℕ → List Stretch → List Stretch → ℕ → List ℕ → List Stretch

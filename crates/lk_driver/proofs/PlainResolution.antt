@@ -1,17 +1,20 @@
 -- What resolution finds of a plain object.
-use Rattle.std.specs.Prelude.{◌≡◌, ◌⊎◌, refl, ℕ, ◌==◌, nat_eq, Bool, true, false, cond, List, All, [], ◌∷◌, ◌++◌, map, flat_map, codes, Option, Some, None, option_map, option_and_then}
+use Rattle.std.specs.Prelude.{◌≡◌, ◌⊎◌, refl, ℕ, ◌==◌, nat_eq, Bool, true, false, cond, List, All, [], ◌∷◌, ◌++◌, map, flat_map, codes, Option, Some, None, option_map, option_and_then, Result, Ok}
 use Rattle.std.specs.List.{AllByRecursion}
 use Rattle.std.proofs.Common.{sym, ap, subst, ◌∙◌, inl, inr}
 use Rattle.std.proofs.lemmas.List.{append-nil}
 use Rattle.std.proofs.lemmas.List.Elements.{recursion_from_All}
 use Rattle.lk_elf.specs.declared.relocation.Rela.{Rela}
 use Rattle.lk_report.specs.FileMap.{FileMap, FileRow}
+use Rattle.lk_report.specs.declared.faults.InputFault.{InputFault}
 use Rattle.lk_report.specs.declared.stamps.Stamp.{Stamp}
 use Rattle.lk_model.specs.Adding.{added_inputs}
 use Rattle.lk_model.specs.Elf.{elf_of}
 use Rattle.lk_model.specs.Finding.{Found, contributions_in, found_of, winner_in}
 use Rattle.lk_model.specs.Forms.{is_address_form, r_x86_64_plt32}
+use Rattle.lk_model.specs.Inputs.{is_shared, summary_by}
 use Rattle.lk_model.specs.KeptPieces.{name_pieces}
+use Rattle.lk_model.specs.Kinds.{kind_of}
 use Rattle.lk_model.specs.Links.{resolved_of}
 use Rattle.lk_model.specs.MadeNames.{is_made}
 use Rattle.lk_model.specs.NeedsOf.{got_key_eq, address_needs, copy_needs, got_needs, import_of, import_where, is_callable, is_variable, loaded_references, needs_of, plt_needs}
@@ -30,6 +33,8 @@ use Rattle.lk_model.specs.declared.summaries.Global.{Global}
 use Rattle.lk_model.specs.declared.summaries.Home.{Home}
 use Rattle.lk_model.specs.declared.summaries.Home.TheVariants as home
 use Rattle.lk_model.specs.declared.summaries.InputSummary.{InputSummary}
+use Rattle.lk_model.specs.declared.summaries.Kind.{Kind}
+use Rattle.lk_model.specs.declared.summaries.Kind.TheVariants as kind
 use Rattle.lk_model.specs.declared.summaries.Winner.{Winner}
 use Rattle.lk_driver.proofs.ListedGlobals.{GlobalsAreListed, IsListedGlobal, IsPlainHome, IsPlainReference, globals_listed}
 use Rattle.lk_driver.specs.PlainFacts.{GlobalsArePlain}
@@ -241,12 +246,14 @@ plain-resolve path stamp elf plain each =
 pub plain-resolved-of :
     (out path : List ℕ) (files : FileMap) (row : FileRow)
     → files path ≡ Some row
+    → kind_of row.bytes ≡ Ok kind.Object
     → summary_in (elf_of row.bytes) ≡ plain_summary (elf_of row.bytes)
     → GlobalsArePlain (first_global (elf_of row.bytes)) (globals_in (elf_of row.bytes))
     → All (IsPlainReference (first_global (elf_of row.bytes)) (globals_in (elf_of row.bytes))) (relocations_in (elf_of row.bytes) 1)
     → resolved_of (plain_command out path) files ≡ plain_resolved path row.stamp (elf_of row.bytes)
 unfolding resolved_of
-plain-resolved-of out path files row there summary plain each =
+plain-resolved-of out path files row there is_object summary plain each =
     ap (resolve plain_options) (plain-inputs out path files row there)
+    ∙ ap (λ (k : Result Kind InputFault). resolve plain_options (record (input_read path row) { summary = summary_by (is_shared k) path (elf_of row.bytes) } ∷ [])) is_object
     ∙ ap (λ (s : InputSummary). resolve plain_options (record (input_read path row) { summary = s } ∷ [])) summary
     ∙ plain-resolve path row.stamp (elf_of row.bytes) plain each

@@ -19,7 +19,7 @@ use Rattle.lk_driver.proofs.ListedGlobals.{IsPlainReference, references_plain}
 use Rattle.lk_driver.proofs.PlainGlobals.{plain-globals, plain-symbols-length}
 use Rattle.lk_driver.proofs.PlainReading.{plain-facts-of}
 use Rattle.lk_driver.proofs.PlainResolution.{plain-resolved-of}
-use Rattle.lk_driver.proofs.PlainSummary.{plain-summary}
+use Rattle.lk_driver.proofs.PlainSummary.{plain-kind, plain-summary}
 use Rattle.lk_driver.proofs.PlainWords.{plain-words}
 
 -- the relocations of a plain object are of the three types and by symbols that are there
@@ -39,6 +39,7 @@ pub plain-resolved :
 plain-resolved out path files row there plain =
     let facts : PlainFacts (elf_of row.bytes) = plain-facts-of row.bytes plain in
     plain-resolved-of out path files row there
+    (plain-kind row.bytes plain)
     (plain-summary (elf_of row.bytes) facts)
     (plain-globals (elf_of row.bytes) facts)
     (plain-references (elf_of row.bytes) facts)

@@ -12,8 +12,8 @@ use Rattle.lk_model.specs.Answers.{accepted_command}
 use Rattle.lk_model.specs.Checks.{first_fault}
 use Rattle.lk_model.specs.Elf.{elf_of}
 use Rattle.lk_model.specs.Grammar.{Meaning, Meaningless, Valued, Phrase, command_in, word_meaning, joined_meaning, option_apart, Flagged, Given, Named, InMode, Output, Path, beginnings, checks_after, command_of, command_unless, four_words, grammar, holds_zero, is_path, meaning_of, names_file, options_of, phrase_checks, phrase_of, phrases_from, phrases_of, put_word, usage_checks, whole_words, with_input}
-use Rattle.lk_model.specs.Inputs.{found_at, inputs_after, inputs_of, path_of, words_from}
-use Rattle.lk_model.specs.Objects.{summary_in}
+use Rattle.lk_model.specs.Inputs.{found_at, inputs_after, inputs_of, is_shared, path_of, summary_by, words_from}
+use Rattle.lk_model.specs.Kinds.{kind_of}
 use Rattle.lk_model.specs.Views.{Input}
 use Rattle.lk_model.specs.declared.commands.Command.{Command}
 use Rattle.lk_model.specs.declared.commands.Mark.TheVariants as mark
@@ -161,7 +161,7 @@ input_read path row = record {
   mark = mark.Unknown;
   stamp = row.stamp;
   elf = elf_of row.bytes;
-  summary = summary_in (elf_of row.bytes);
+  summary = summary_by (is_shared (kind_of row.bytes)) path (elf_of row.bytes);
 }
 
 abbrev input_word : List ℕ → ℕ × Word

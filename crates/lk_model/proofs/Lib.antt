@@ -34,3 +34,25 @@ pub mod PiecesPlaced
 pub mod RowsTold
 pub mod TablesThere
 mod ValueExamples
+mod HashExamples
+pub mod DynamicLinks
+mod DynamicExamples
+mod SymbolTableExamples
+pub mod RecordsComputed
+pub mod RecordCases
+mod RecordExamples
+mod SmallestWholeLink
+mod SharedExamples
+mod LoadExamples
+pub mod HashTables
+mod RecordsRefused
+mod BaseExamples
+mod UpdateComputed
+mod UpdateLinks
+mod UpdateExamples
+mod UpdateStayExamples
+mod SlotUpdateExamples
+mod UpdateAnswerExamples
+pub mod DynamicLengths
+mod RecordsLinked
+mod DynamicImageExamples

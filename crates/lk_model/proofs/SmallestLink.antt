@@ -7,7 +7,7 @@ use Rattle.lk_model.proofs.Computed.{said_of, linked_of}
 abbrev zeros : ℕ → List ℕ
 zeros n = replicate n 0
 
-smallest_input_0 : List ℕ
+unfoldable pub smallest_input_0 : List ℕ
 smallest_input_0 =
     (127 ∷ 69 ∷ 76 ∷ 70 ∷ 2 ∷ 1 ∷ 1 ∷ 0 ∷ 0 ∷ 0 ∷ 0 ∷ 0 ∷ 0 ∷ 0 ∷ 0 ∷ 0 ∷ 1 ∷ 0 ∷ 62 ∷ 0 ∷ 1 ∷ [])
     ++ zeros 19
@@ -44,13 +44,13 @@ smallest_input_0 =
     ++ (1 ∷ [])
     ++ zeros 15
 
-smallest_files : FileMap
+unfoldable pub smallest_files : FileMap
 unfolding smallest_input_0
 smallest_files path =
     if bytes_eq path (codes "a.o") then Some (record { bytes = smallest_input_0; stamp = Some (record { length = 552; modified = pos 1600000000000000000 }) })
     else (None)
 
-smallest_words : List (List ℕ)
+unfoldable pub smallest_words : List (List ℕ)
 smallest_words = codes "--incremental-full" ∷ codes "-o" ∷ codes "out" ∷ codes "a.o" ∷ []
 
 -- what is said: full link

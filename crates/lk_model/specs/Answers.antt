@@ -26,7 +26,7 @@ use Rattle.lk_model.specs.Plain.{is_plain}
 use Rattle.lk_model.specs.ResolveFaults.{resolve_faults, name_count}
 use Rattle.lk_model.specs.ScanFaults.{scan_faults}
 use Rattle.lk_model.specs.Segments.{program_headers}
-use Rattle.lk_model.specs.Tail.{tail_parts, headers_offset, section_headers}
+use Rattle.lk_model.specs.Tail.{Part, tail_parts, headers_offset, section_headers}
 use Rattle.lk_model.specs.Views.{Resolved, Input}
 use Rattle.lk_model.specs.declared.commands.Command.{Command}
 use Rattle.lk_model.specs.declared.commands.Item.{Item}
@@ -52,12 +52,17 @@ abbrev pub fault_status : List Fault → Option Status
 fault_status [] = None
 fault_status (f ∷ fs) = Some (status.LinkError (f ∷ fs))
 
--- the limits of a placement, in their order: output sections, memory, program headers, the image
-abbrev pub image_length : Resolved → Placement → ℕ
-image_length r place = let parts = tail_parts r place in headers_offset place parts + 64 * (length place.sections + length parts + 1)
+-- the length of an image whose tail has these parts: it ends with the section headers
+abbrev pub length_with : Placement → List Part → ℕ
+length_with place parts = headers_offset place parts + 64 * (length place.sections + length parts + 1)
 
-abbrev pub placement_limit : Resolved → Placement → Option Status
-placement_limit r place =
+abbrev pub image_length : Resolved → Placement → ℕ
+image_length r place = length_with place (tail_parts r place)
+
+-- the limits of a placement whose image is so long, in their order: output sections, memory, program
+-- headers, the image
+abbrev pub placement_limit_with : ℕ → Resolved → Placement → Option Status
+placement_limit_with image_bytes r place =
     elim (limit_fault limit.Sections 60000 (section_count place)) [
       | Some s ↦ Some s
       | None ↦
@@ -67,10 +72,13 @@ placement_limit r place =
                 elim (limit_fault limit.Headers 64 (length (program_headers place (exec_stack_of r)))) [
                   | Some s ↦ Some s
                   | None ↦
-                      limit_fault limit.Image (2 ^ 29) (image_length r place)
+                      limit_fault limit.Image (2 ^ 29) image_bytes
                 ]
           ]
     ]
+
+abbrev pub placement_limit : Resolved → Placement → Option Status
+placement_limit r place = placement_limit_with (image_length r place) r place
 
 -- the answer of a link whose inputs have no fault: names, resolution, scan, then the placement
 abbrev pub placed_answer : Resolved → Placement → Status

@@ -59,10 +59,13 @@ sequence_extent patch key pieces =
 abbrev pub table_extent : ℕ → SectionKey → ℕ → Extent
 table_extent patch key size = record { key = key; size = size; room = room_of patch size; align = 16 }
 
+-- the size of a table among tables with their sizes; `None` where the section is none of them
+abbrev pub size_among : List (SectionKey × ℕ) → SectionKey → Option ℕ
+size_among sizes key = option_map (λ (row : SectionKey × ℕ). row.1) (find (λ (row : SectionKey × ℕ). same_key key row.0) sizes)
+
 -- the size of a table; `None` where the section is none
 abbrev pub table_size : Resolved → SlotTable → SectionKey → Option ℕ
-table_size r slots key =
-    option_map (λ (row : SectionKey × ℕ). row.1) (find (λ (row : SectionKey × ℕ). same_key key row.0) (table_sizes r slots))
+table_size r slots key = size_among (table_sizes r slots) key
 
 abbrev pub pieces_extent : Bool → ℕ → SectionKey → List KeptPiece → Extent
 pieces_extent true patch key pieces = patched_extent patch key pieces

@@ -60,14 +60,17 @@ row_stretches r place (n, row) =
 abbrev pub part_stretch : PlacedPart → Stretch
 part_stretch p = stretch p.offset p.part.bytes
 
--- all stretches of the image of a link at a placement
-unfoldable pub stretches_of : Resolved → Placement → List Stretch
-stretches_of r place =
-    let parts = tail_parts r place in
+-- all stretches of the image of a link at a placement, where the tail has these parts
+abbrev pub stretches_with : Resolved → Placement → List Part → List Stretch
+stretches_with r place parts =
     stretch 0 (header_bytes r place parts) ∷ stretch seal_offset seal
     ∷ flat_map (row_stretches r place) (enumerate_from 0 place.sections)
     ++ map part_stretch (parts_from (tail_start place) parts)
     ++ stretch (headers_offset place parts) (flat_map shdr_bytes (section_headers place parts)) ∷ []
+
+-- all stretches of the image of a link at a placement
+unfoldable pub stretches_of : Resolved → Placement → List Stretch
+stretches_of r place = stretches_with r place (tail_parts r place)
 
 -- a stretch put before the first that stands after it
 abbrev pub put_in_order : List Stretch → Stretch → List Stretch
@@ -78,6 +81,10 @@ put_in_order (x ∷ xs) s = if nat_le x.at s.at then x ∷ put_in_order xs s els
 abbrev pub has_bytes : Stretch → Bool
 has_bytes s = nat_lt 0 (length s.bytes)
 
--- the image of a link at a placement: its stretches by rising place, with zeros between them
+-- a file made of stretches in any order: those that have a byte, by rising place, with zeros between
+abbrev pub file_of : List Stretch → List ℕ
+file_of stretches = laid_out (fold put_in_order [] (filter has_bytes stretches))
+
+-- the image of a link at a placement
 unfoldable pub image_of : Resolved → Placement → List ℕ
-image_of r place = laid_out (fold put_in_order [] (filter has_bytes (stretches_of r place)))
+image_of r place = file_of (stretches_of r place)

@@ -9,12 +9,15 @@ use Rattle.lk_model.specs.declared.commands.Command.{Command}
 use Rattle.lk_model.specs.declared.commands.Item.{Item}
 use Rattle.lk_model.specs.declared.commands.Item.TheVariants.{One, Lib}
 use Rattle.lk_model.specs.declared.commands.Word.{Word}
+use Rattle.lk_model.specs.declared.summaries.InputSummary.{InputSummary}
 use Rattle.lk_model.specs.declared.summaries.Kind.{Kind}
 use Rattle.lk_model.specs.declared.summaries.Kind.TheVariants.{Shared}
 use Rattle.lk_model.specs.Elf.{elf_of}
 use Rattle.lk_model.specs.Kinds.{kind_of}
 use Rattle.lk_model.specs.ObjectChecks.{object_fault}
 use Rattle.lk_model.specs.Objects.{summary_in}
+use Rattle.lk_model.specs.SharedChecks.{shared_fault}
+use Rattle.lk_model.specs.SharedObjects.{shared_summary_in}
 use Rattle.lk_model.specs.Views.{Elf, Input}
 
 -- ---- paths
@@ -83,6 +86,20 @@ found_at files row path =
 abbrev pub found_in : Command → FileMap → ℕ × Word → Option Found
 found_in command files row = option_and_then (found_at files row) (path_of command files row.1)
 
+-- a shared object by its first bytes
+abbrev pub is_shared : Result Kind InputFault → Bool
+is_shared (Ok Shared) = true
+is_shared other = false
+
+-- whether a file is read as a shared object; a member of a lib group is always read as an object
+abbrev pub is_read_as_shared : ℕ → List ℕ → Bool
+is_read_as_shared lib bytes = lib == 0 && is_shared (kind_of bytes)
+
+-- what a file holds, read as a shared object or as an object
+abbrev pub summary_by : Bool → List ℕ → Elf → InputSummary
+summary_by true path elf = shared_summary_in path elf
+summary_by false path elf = summary_in elf
+
 -- an input as it was read
 abbrev pub input_with : ℕ → Found → Elf → Input
 input_with occurrence found elf = record {
@@ -92,7 +109,7 @@ input_with occurrence found elf = record {
   mark = found.word.mark;
   stamp = found.file.stamp;
   elf = elf;
-  summary = summary_in elf;
+  summary = summary_by (is_read_as_shared found.lib found.file.bytes) found.path elf;
 }
 
 -- how many of these paths are this one
@@ -112,19 +129,21 @@ inputs_of command files = inputs_after [] (filter_map (found_in command files) (
 
 -- ---- what is read of the inputs
 
--- a shared object by its first bytes
-abbrev pub is_shared : Result Kind InputFault → Bool
-is_shared (Ok Shared) = true
-is_shared other = false
-
--- an input that is read as a shared object; a member of a lib group is always read as an object
+-- an input that is read as a shared object
 unfoldable pub reads_as_shared : Input → Bool
-reads_as_shared input = input.lib == 0 && is_shared (kind_of input.elf.bytes)
+reads_as_shared input = is_read_as_shared input.lib input.elf.bytes
 
--- the fault of an input that is read as an object
+-- the fault of a file, read as a shared object or as an object
+abbrev pub fault_by : Bool → List ℕ → Option InputFault
+fault_by true bytes = shared_fault bytes
+fault_by false bytes = object_fault bytes
+
+-- the fault of an input
 unfoldable pub input_fault_in : Input → Option Fault
-input_fault_in input = option_map (λ (fault : InputFault). faults.Input input.path fault) (object_fault input.elf.bytes)
+input_fault_in input =
+    option_map (λ (fault : InputFault). faults.Input input.path fault)
+    (fault_by (is_read_as_shared input.lib input.elf.bytes) input.elf.bytes)
 
--- all faults of inputs that are read as objects, in command order
+-- all faults of inputs, in command order
 unfoldable pub input_faults_of : List Input → List Fault
 input_faults_of inputs = filter_map input_fault_in inputs

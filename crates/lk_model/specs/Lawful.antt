@@ -3,9 +3,9 @@
 use Rattle.std.specs.Prelude.{is_some, ◌≡◌, ℕ, Bool, true, false, IsTrue, if◌then◌else◌, List, [], ◌∷◌, Option, Some, None, ◌+◌, ◌%◌, ◌==◌, ◌&&◌, ◌||◌, not, nat_le, take, map, filter, zip, count_by, ⊤}
 use Rattle.std.specs.List.{AllByRecursion, IsDistinct, enumerate_from, list_all, list_any, slice_get}
 use Rattle.lk_model.specs.SectionKeys.{same_key, is_table, same_class, is_alloc, in_file, is_patched, is_numbered_array, least_of, reserved_of}
-use Rattle.lk_model.specs.SectionOrder.{in_order, table_sizes}
+use Rattle.lk_model.specs.SectionOrder.{in_order, table_sizes, table_sizes_among}
 use Rattle.lk_model.specs.Rooms.{sequence_end, sequence_of}
-use Rattle.lk_model.specs.FullPlace.{Extent, extent_of, pieces_in, table_size, rows_of, offset_in_sequence}
+use Rattle.lk_model.specs.FullPlace.{Extent, extent_of, pieces_in, table_size, size_among, rows_of, offset_in_sequence}
 use Rattle.lk_model.specs.Holes.{holes_of}
 use Rattle.lk_model.specs.Keys.{same_got, is_slot_of}
 use Rattle.lk_model.specs.Views.{KeptPiece, Resolved}
@@ -105,9 +105,14 @@ size_with (Some size) r row = size
 size_with None r row =
     if is_patched row.key then row.room else sequence_end (sequence_of (is_numbered_array row.key) (pieces_in row.key r.kept))
 
+-- the tables of a placement with their sizes, which its rows decide: `.dynamic` names the arrays that
+-- are there, one left over from an earlier link too
+abbrev pub table_sizes_at : Resolved → Placement → List (SectionKey × ℕ)
+table_sizes_at r place = table_sizes_among (map (λ (row : SectionRow). row.key) place.sections) r place.slots
+
 -- the size of a section: that of its table, its room where it is patched, else where its last piece ends
-abbrev pub size_of : Resolved → SlotTable → SectionRow → ℕ
-size_of r slots row = size_with (table_size r slots row.key) r row
+abbrev pub size_of : Resolved → Placement → SectionRow → ℕ
+size_of r place row = size_with (size_among (table_sizes_at r place) row.key) r row
 
 -- the extent of a row
 abbrev pub extent_of_row : SectionRow → Extent
@@ -146,7 +151,7 @@ pub record Lawful (r : Resolved) (place : Placement) : Type 0 where
   -- any other section is the sequence of its pieces
   pub sequences : AllByRecursion (λ (p : Placed). RowOf place p.1.1 (is_in_sequence r.kept p.0 p.1.0 p.1.1)) (placed_of r place)
   -- each section has its size, which is at most its room
-  pub sizes : AllByRecursion (λ (row : SectionRow). IsTrue (row.size == size_of r place.slots row && nat_le row.size row.room)) place.sections
+  pub sizes : AllByRecursion (λ (row : SectionRow). IsTrue (row.size == size_of r place row && nat_le row.size row.room)) place.sections
   -- the tables are there
   pub tables : AllByRecursion (λ (table : SectionKey × ℕ). IsTrue (list_any (λ (row : SectionRow). same_key row.key table.0) place.sections)) (table_sizes r place.slots)
   -- no other table is there

@@ -5,6 +5,7 @@ use Rattle.std.specs.Prelude.{ℕ, Bool, true, false, if◌then◌else◌, List,
 use Rattle.std.specs.List.{list_any, position_or_len, range_with_len}
 use Rattle.lk_model.specs.SectionKeys.{same_key, is_note, got_key, got_plt_key}
 pub use Rattle.lk_model.specs.SectionKeys.{is_patched, is_note, least_of, fill_kind, header_type, header_flags, is_alloc, in_file}
+use Rattle.lk_model.specs.DynamicSizes.{dynamic_table_sizes}
 use Rattle.lk_model.specs.Views.{KeptPiece, Resolved}
 use Rattle.lk_model.specs.declared.layouts.Class.{Class}
 use Rattle.lk_model.specs.declared.layouts.Class.TheVariants.{R, X, W, WX, Tdata, Tbss, Bss, N}
@@ -114,13 +115,27 @@ in_order keys = flat_map (λ rank. filter (λ key. section_rank key == rank) key
 abbrev pub each_once : List SectionKey → List SectionKey
 each_once keys = fold (λ seen key. if list_any (same_key key) seen then seen else seen ++ key ∷ []) [] keys
 
--- the tables that a link makes, with their sizes: a slot is eight bytes, and the GOT's second part
--- begins with three that the dynamic linker keeps (psABI "Global Offset Table")
-unfoldable pub table_sizes : Resolved → SlotTable → List (SectionKey × ℕ)
-table_sizes r slots =
+-- the tables of a dynamic link, where a link is one
+abbrev pub dynamic_sizes_where : Bool → Resolved → List SectionKey → SlotTable → List (SectionKey × ℕ)
+dynamic_sizes_where true r keys slots = dynamic_table_sizes r keys slots
+dynamic_sizes_where false r keys slots = []
+
+-- the tables that a link makes, with their sizes, where output sections of these keys exist: a slot is
+-- eight bytes, and the GOT's second part begins with three that the dynamic linker keeps (psABI "Global
+-- Offset Table")
+abbrev pub table_sizes_among : List SectionKey → Resolved → SlotTable → List (SectionKey × ℕ)
+table_sizes_among keys r slots =
     (got_key, 8 * length slots.got)
     ∷ (got_plt_key, 8 * (3 + length slots.plt))
-    ∷ []
+    ∷ dynamic_sizes_where r.options.dynamic r keys slots
+
+-- the keys of the output sections that kept pieces go to, in order of the first piece
+abbrev pub piece_keys : Resolved → List SectionKey
+piece_keys r = each_once (map (λ (piece : KeptPiece). piece.key) r.kept)
+
+-- the tables that a link made anew makes, with their sizes
+unfoldable pub table_sizes : Resolved → SlotTable → List (SectionKey × ℕ)
+table_sizes r slots = table_sizes_among (piece_keys r) r slots
 
 -- the slots that references need, in order of first reference
 abbrev pub slots_of : Needs → SlotTable
@@ -129,7 +144,7 @@ slots_of needs = record { got = map Some needs.got; plt = needs.plt }
 -- the output sections that exist: those that a kept piece goes to, in order of the first, and the tables
 abbrev pub existing_keys : Resolved → List SectionKey
 existing_keys r =
-    each_once (map (λ (piece : KeptPiece). piece.key) r.kept)
+    piece_keys r
     ++ map (λ (row : SectionKey × ℕ). row.0) (table_sizes r (slots_of r.needs))
 
 -- the output sections of a link in their order

@@ -4,7 +4,7 @@ ghost use Rattle.std.specs.Prelude.{◌≡◌, IfOk};
 
 use crate::layouts::Placement;
 use crate::summaries::InputSummary;
-use lk_report::{List, Name, NoMemory, OptionRecord, Stamp, TryCopy};
+use lk_report::{Bytes, List, Name, NoMemory, OptionRecord, Stamp, TryCopy};
 use std::alloc::Global;
 
 /// A relocation of a kept piece through a symbol that is not LOCAL.
@@ -76,6 +76,31 @@ pub struct Records {
     pub names: NameRowList,
     pub references: ReferenceList,
     pub placement: Placement,
+}
+
+/// The five record sections of an image.
+#[derive(PartialEq, Eq, Debug, Drop)]
+pub struct Five {
+    /// The options, the output sections, and the inputs with their pieces, symbols and groups.
+    pub inputs: Bytes,
+    /// The names.
+    pub symtab: Bytes,
+    /// The references.
+    pub relocs: Bytes,
+    /// The GOT slots, the PLT entries, the commons and the copies.
+    pub got_plt: Bytes,
+    /// The texts of the other four.
+    pub strtab: Bytes,
+}
+
+/// Why the five sections are not read as records.
+#[derive(Clone, Copy, PartialEq, Eq, Debug)]
+pub enum RecordFault {
+    /// The first bad place: the section by its number from 0, and the offset in it.
+    Bad { section: u32, offset: u64 },
+    /// The records have another version.
+    Version(u32),
+    NoMemory,
 }
 
 /// References in adding order, by section and entry.
