@@ -1,0 +1,119 @@
+//! Whether bytes are an object that can be linked (gABI "Object Files"): all checks in their order, and
+//! the first fault with its place.
+
+ghost use Rattle.std.specs.Prelude.{◌≡◌, ◌≤◌, ◌<◌, ◌*◌, ◌^◌, length, IfOk};
+ghost use Rattle.lk_elf.specs.Records.{ehdr_at};
+ghost use Rattle.lk_elf.specs.Numbers.{sht_symtab};
+ghost use Rattle.lk_model.specs.Checks.{first_fault};
+ghost use Rattle.lk_model.specs.Elf.{elf_of, first_of_type, section_headers_of, symbols_of};
+ghost use Rattle.lk_model.specs.Kinds.{kind_checks};
+ghost use Rattle.lk_model.specs.ObjectChecks.{object_checks, object_fault};
+ghost use Rattle.lk_obj_read.specs.ElfViews.{elf_from};
+ghost use Rattle.lk_obj_read.specs.ObjectParts.{reference_half, table_half};
+
+use crate::file_table::read_sections;
+use crate::group_checks::groups_fault;
+use crate::overlaps::overlap_fault;
+use crate::relocation_checks::rela_faults;
+use crate::section_checks::{sections_fault, table_fault};
+use crate::symbol_checks::{symbol_table_fault, symbols_fault};
+use crate::symbols::read_symbols;
+use lk_elf::{Ehdr, Shdr, Sym};
+use lk_report::{InputFault, NoMemory};
+use lk_summary::kind_of;
+use std::alloc::Global;
+
+/// The first fault of the tables of sections and symbols.
+#[tactic(auto, using(crate::proofs::ObjectFaults::table_stops, crate::proofs::ObjectFaults::sections_stop, crate::proofs::ObjectFaults::symtab_stops, crate::proofs::ObjectFaults::symbols_end))]
+fn tables_fault(
+    bytes: &[u8],
+    header: &Ehdr,
+    sections: &[Shdr],
+    symbols: &[Sym],
+) -> Option<InputFault>
+    requires few_sections { length sections.now < 2 ^ 32 }
+    requires few_symbols { length symbols.now < 2 ^ 32 }
+    ensures { result ≡ first_fault (table_half (elf_from bytes.now header.now sections.now symbols.now)) }
+{
+    if let Some(fault) = table_fault(bytes, header, sections) {
+        return Some(fault);
+    }
+    if let Some(fault) = sections_fault(bytes, header, sections) {
+        return Some(fault);
+    }
+    if let Some(fault) = symbol_table_fault(sections, symbols) {
+        return Some(fault);
+    }
+    symbols_fault(bytes, sections, symbols)
+}
+
+/// The first fault of what refers to them: relocations and groups.
+#[tactic(auto, using(crate::proofs::ObjectFaults::relas_stop, crate::proofs::ObjectFaults::overlaps_stop, crate::proofs::ObjectFaults::groups_end))]
+fn references_fault(
+    alloc: Global,
+    bytes: &[u8],
+    header: &Ehdr,
+    sections: &[Shdr],
+    symbols: &[Sym],
+) -> Result<Option<InputFault>, NoMemory>
+    requires few_entries { length bytes.now ≤ 24 * 2 ^ 32 }
+    requires few_sections { length sections.now < 2 ^ 32 }
+    ensures { IfOk result (λ fault. fault ≡ first_fault (reference_half (elf_from bytes.now header.now sections.now symbols.now))) }
+{
+    if let Some(fault) = rela_faults(bytes, header, sections, symbols) {
+        return Ok(Some(fault));
+    }
+    if let Some(fault) = overlap_fault(alloc, bytes, header, sections)? {
+        return Ok(Some(fault));
+    }
+    groups_fault(alloc, bytes, header, sections, symbols)
+}
+
+/// The first fault of a file of these parts.
+#[tactic(auto, using(crate::proofs::ObjectFaults::tables_told, crate::proofs::ObjectFaults::references_told))]
+fn parts_fault(
+    alloc: Global,
+    bytes: &[u8],
+    header: &Ehdr,
+    sections: &[Shdr],
+    symbols: &[Sym],
+) -> Result<Option<InputFault>, NoMemory>
+    requires few_entries { length bytes.now ≤ 24 * 2 ^ 32 }
+    requires few_sections { length sections.now < 2 ^ 32 }
+    requires few_symbols { length symbols.now < 2 ^ 32 }
+    ensures { IfOk result (λ fault. fault ≡ first_fault (object_checks (elf_from bytes.now header.now sections.now symbols.now))) }
+{
+    if let Some(fault) = tables_fault(bytes, header, sections, symbols) {
+        return Ok(Some(fault));
+    }
+    references_fault(alloc, bytes, header, sections, symbols)
+}
+
+/// The first fault of a file with this header, which is one of ELF64 for this machine.
+fn checks_fault(alloc: Global, bytes: &[u8], header: &Ehdr) -> Result<Option<InputFault>, NoMemory>
+    requires few_entries { length bytes.now ≤ 24 * 2 ^ 32 }
+    requires its_own { header.now ≡ ehdr_at bytes.now 0 }
+    ensures { IfOk result (λ fault. fault ≡ first_fault (object_checks (elf_of bytes.now))) }
+{
+    let sections = read_sections(alloc, bytes, header)?;
+    let symbols = read_symbols(alloc, bytes, &sections)?;
+    parts_fault(alloc, bytes, header, &sections, &symbols)
+}
+
+/// The first fault of a file that is read as an object; none where it is one. At most 96 GiB.
+///
+/// # Errors
+/// Want of memory alone.
+#[tactic(auto, using(crate::proofs::ObjectFaults::kind_told, crate::proofs::ObjectFaults::no_header, crate::proofs::ObjectFaults::checks_told))]
+pub fn object_fault(alloc: Global, bytes: &[u8]) -> Result<Option<InputFault>, NoMemory>
+    requires few_entries { length bytes.now ≤ 24 * 2 ^ 32 }
+    ensures { IfOk result (λ fault. fault ≡ object_fault bytes.now) }
+{
+    if let Err(fault) = kind_of(bytes) {
+        return Ok(Some(fault));
+    }
+    match Ehdr::read_at(bytes, 0) {
+        Ok(header) => checks_fault(alloc, bytes, &header),
+        Err(_) => Ok(Some(InputFault::NotElf)),
+    }
+}

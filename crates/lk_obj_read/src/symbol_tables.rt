@@ -1,0 +1,8 @@
+//! Where the symbol table of a file stands (gABI "Symbol Table").
+
+/// The section of the symbol table, and the string section that it names.
+#[derive(Clone, Copy)]
+pub struct SymbolsAt {
+    pub section: u32,
+    pub strings: u32,
+}
