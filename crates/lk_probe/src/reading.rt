@@ -1,0 +1,70 @@
+//! What the bytes of a file are.
+
+ghost use Rattle.std.specs.Prelude.{◌≡◌, ◌≤◌, ◌<◌, ◌^◌, length, IfOk, Some, None};
+ghost use Rattle.lk_model.specs.ObjectChecks.{object_fault};
+ghost use Rattle.lk_probe.specs.Judging.{AreCounts, IsJudged};
+
+use lk_elf::Ehdr;
+use lk_obj_read::{object_fault, read_sections, read_symbols};
+use lk_report::{InputFault, LimitFault, LimitKind, NoMemory};
+use std::alloc::Global;
+
+/// How many bytes an object has at most: 64 MiB.
+const MOST_BYTES: usize = 0x400_0000;
+
+/// What a file is.
+#[derive(Drop)]
+pub enum Verdict {
+    /// An object that can be linked, with so many section headers and entries of its symbol table.
+    Object { sections: usize, symbols: usize },
+    /// A file with this first fault.
+    Faulty(InputFault),
+    /// A file that is longer than an object may be.
+    TooLong(LimitFault),
+    /// There was no memory to tell.
+    NoMemory,
+}
+
+/// What the bytes of a file are.
+#[tactic(auto, using(crate::proofs::FirstHeaders::has_header))]
+pub fn judged(alloc: Global, bytes: &[u8]) -> Verdict
+    ensures { IsJudged bytes.now result }
+{
+    if bytes.len() > MOST_BYTES {
+        return Verdict::TooLong(LimitFault {
+            which: LimitKind::InputSize,
+            number: bytes.len() as u64,
+        });
+    }
+    match object_fault(alloc, bytes) {
+        Ok(None) => counted(alloc, bytes),
+        Ok(Some(fault)) => Verdict::Faulty(fault),
+        Err(NoMemory) => Verdict::NoMemory,
+    }
+}
+
+/// An object with its counts.
+fn counted(alloc: Global, bytes: &[u8]) -> Verdict
+    requires sound { object_fault bytes.now ≡ None }
+    requires short { length bytes.now ≤ 2 ^ 26 }
+    requires headed { 64 ≤ length bytes.now }
+    ensures { IsJudged bytes.now result }
+{
+    match counts(alloc, bytes) {
+        Ok((sections, symbols)) => Verdict::Object { sections, symbols },
+        Err(NoMemory) => Verdict::NoMemory,
+    }
+}
+
+/// The numbers of section headers and of entries of the symbol table.
+fn counts(alloc: Global, bytes: &[u8]) -> Result<(usize, usize), NoMemory>
+    requires headed { 64 ≤ length bytes.now }
+    ensures { IfOk result (AreCounts bytes.now) }
+{
+    let Ok(header) = Ehdr::read_at(bytes, 0) else {
+        return Ok((0, 0));
+    };
+    let sections = read_sections(alloc, bytes, &header)?;
+    let symbols = read_symbols(alloc, bytes, &sections)?;
+    Ok((sections.len(), symbols.len()))
+}
