@@ -16,9 +16,9 @@ use Rattle.lk_model.specs.ObjectChecks.{group_checks_after, object_checks, objec
 use Rattle.lk_model.specs.Objects.{group_sections, is_piece_in}
 use Rattle.lk_model.specs.Views.{Elf}
 use Rattle.lk_model.specs.declared.summaries.Kind.{Kind}
-use Rattle.lk_obj_read.specs.ElfViews.{elf_from}
+use Rattle.lk_obj_parts.specs.ElfViews.{elf_from}
 use Rattle.lk_obj_read.specs.ObjectParts.{reference_half, table_half}
-use Rattle.lk_obj_read.proofs.SymbolsUnread.{elf_parts, sections_unread, table_unread}
+use Rattle.lk_obj_parts.proofs.SymbolsUnread.{elf_parts, sections_unread, table_unread}
 
 -- the fault of two lists of checks is that of the first, or else that of the second
 abbrev or_fault : Option InputFault → Option InputFault → Option InputFault

@@ -1,13 +1,1 @@
-pub mod CommonNames
-pub mod ElfViews
-pub mod SectionParts
-pub mod SymbolParts
-pub mod FieldMarks
-pub mod RelocationEntries
-pub mod RelocationParts
-pub mod TargetRows
-pub mod GroupLists
-pub mod GroupMarks
-pub mod GroupParts
-pub mod SymbolTables
 pub mod ObjectParts

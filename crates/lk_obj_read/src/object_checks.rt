@@ -8,17 +8,14 @@ ghost use Rattle.lk_model.specs.Checks.{first_fault};
 ghost use Rattle.lk_model.specs.Elf.{elf_of, first_of_type, section_headers_of, symbols_of};
 ghost use Rattle.lk_model.specs.Kinds.{kind_checks};
 ghost use Rattle.lk_model.specs.ObjectChecks.{object_checks, object_fault};
-ghost use Rattle.lk_obj_read.specs.ElfViews.{elf_from};
+ghost use Rattle.lk_obj_parts.specs.ElfViews.{elf_from};
 ghost use Rattle.lk_obj_read.specs.ObjectParts.{reference_half, table_half};
 
-use crate::file_table::read_sections;
-use crate::group_checks::groups_fault;
-use crate::overlaps::overlap_fault;
-use crate::relocation_checks::rela_faults;
-use crate::section_checks::{sections_fault, table_fault};
-use crate::symbol_checks::{symbol_table_fault, symbols_fault};
-use crate::symbols::read_symbols;
 use lk_elf::{Ehdr, Shdr, Sym};
+use lk_obj_parts::{
+    groups_fault, overlap_fault, read_sections, read_symbols, rela_faults, sections_fault,
+    symbol_table_fault, symbols_fault, table_fault,
+};
 use lk_report::{InputFault, NoMemory};
 use lk_summary::kind_of;
 use std::alloc::Global;

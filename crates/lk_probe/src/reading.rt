@@ -5,7 +5,8 @@ ghost use Rattle.lk_model.specs.ObjectChecks.{object_fault};
 ghost use Rattle.lk_probe.specs.Judging.{AreCounts, IsJudged};
 
 use lk_elf::Ehdr;
-use lk_obj_read::{object_fault, read_sections, read_symbols};
+use lk_obj_parts::{read_sections, read_symbols};
+use lk_obj_read::object_fault;
 use lk_report::{InputFault, LimitFault, LimitKind, NoMemory};
 use std::alloc::Global;
 

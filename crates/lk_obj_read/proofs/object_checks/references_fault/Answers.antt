@@ -1,5 +1,5 @@
 use Rattle.std.proofs.Common.{◌≡◌, IfOk, subst, sym, ◌∙◌}
-use Rattle.lk_obj_read.specs.ElfViews.{elf_from}
+use Rattle.lk_obj_parts.specs.ElfViews.{elf_from}
 use Rattle.lk_obj_read.proofs.ObjectFaults.{groups_end, overlaps_stop}
 use Rattle.lk_obj_read.proofs.object_checks.references_fault.Goals as goal
 

@@ -1,0 +1,48 @@
+//! Objects are read part by part: any bytes come in, and out comes what a relocatable object holds as the
+//! gABI means it, or the first of the named faults of that part with its place.
+//!
+//! The parts: the section table (`read_sections`, `table_fault`, `sections_fault`), the symbols
+//! (`read_symbols`, `symbol_table_fault`, `symbols_fault`, `globals_of`, `local_of`), the relocations
+//! (`relas_under`, `rela_faults`, `overlap_fault`), the groups (`groups_fault`, `groups_of`).
+//! Each contract cites the definition of that name in lk_model (Elf, Pieces, Objects, ObjectChecks), at
+//! the file that `elf_from` in specs/ElfViews makes of the bytes and of what was read from them.
+//!
+//! Callers rely on one law: what is answered is the definition's value, on any bytes. Want of memory
+//! alone is tied to no cause; it is answered only by the calls that take an allocator.
+#![tactic(auto)]
+
+mod file_table;
+mod group_checks;
+#[cfg(test)]
+mod group_tests;
+mod groups;
+mod overlaps;
+mod pieces;
+mod relocation_checks;
+#[cfg(test)]
+mod relocation_tests;
+mod relocations;
+mod section_checks;
+mod signatures;
+mod symbol_checks;
+mod symbol_tables;
+#[cfg(test)]
+mod symbol_tests;
+mod symbols;
+mod target_rows;
+#[cfg(test)]
+mod tests;
+mod texts;
+
+pub use file_table::read_sections;
+pub use group_checks::groups_fault;
+pub use groups::{groups_of, word_under};
+pub use overlaps::overlap_fault;
+pub use pieces::key_of;
+pub use relocation_checks::rela_faults;
+pub use relocations::{code_of, relas_under, symbol_of, width_of};
+pub use section_checks::{sections_fault, table_fault};
+pub use signatures::signature_of;
+pub use symbol_checks::{symbol_table_fault, symbols_fault};
+pub use symbols::{globals_of, local_of, read_symbols, symbol_table};
+pub use texts::{name_at, section_name};

@@ -1,9 +1,0 @@
--- The header of a section in a file and among the headers that were read.
-use Rattle.std.specs.Prelude.{◌≡◌, refl, ℕ, zero, suc}
-use Rattle.lk_model.specs.Elf.{section_at}
-use Rattle.lk_model.specs.Views.{Elf}
-use Rattle.lk_obj_read.specs.ElfViews.{header_at}
-
-pub section_told : (elf : Elf) (n : ℕ) → section_at elf n ≡ header_at elf.sections n
-section_told elf zero = refl
-section_told elf (suc n) = refl

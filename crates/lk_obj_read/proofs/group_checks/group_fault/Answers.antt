@@ -1,9 +1,0 @@
-use Rattle.std.proofs.Common.{◌∙◌}
-use Rattle.lk_obj_read.specs.ElfViews.{elf_from}
-use Rattle.lk_obj_read.proofs.GroupsMarked.{fault_told}
-use Rattle.lk_obj_read.proofs.group_checks.group_fault.Goals as goal
-
-pub returns-clause-claimed : goal.returns-clause-claimed
-returns-clause-claimed c claimed e =
-    c.marked_fault.ensures
-    ∙ fault_told (elf_from c.args.bytes.now c.args.header.now c.args.sections.now c.args.symbols.now) c.args.marks.now claimed c.args.n c.args.section.now e

@@ -1,7 +1,0 @@
-use Rattle.std.specs.Prelude.{◌≡◌, drop, find}
-use Rattle.std.specs.List.{enumerate_from}
-use Rattle.lk_obj_read.specs.SymbolParts.{is_table}
-use Rattle.lk_obj_read.proofs.symbols.symbol_table.Given as goal
-
-abbrev pub invariant-loop-n : goal.invariant-loop-n
-invariant-loop-n l = find is_table (enumerate_from l.n (drop l.n l.sections)) ≡ find is_table (enumerate_from 1 (drop 1 l.sections))
