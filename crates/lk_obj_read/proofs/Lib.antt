@@ -1,1 +1,2 @@
 pub mod ObjectFaults
+pub mod RelocatedSections

@@ -1,1 +1,2 @@
 pub mod ObjectParts
+pub mod RelocatedSections

@@ -3,7 +3,8 @@
 //!
 //! `object_fault` is the first fault of a file by all checks in their order, or none: a validating reader.
 //! Its contract cites the definition of that name in lk_model (ObjectChecks); the passes that it goes
-//! through, and what they read, stand in lk_obj_parts.
+//! through, and what they read, stand in lk_obj_parts. `relocated_sections` tells which sections have
+//! relocations.
 //!
 //! Callers rely on one law: what is answered is the definition's value, on any bytes. Want of memory alone
 //! is tied to no cause.
@@ -12,5 +13,9 @@
 mod object_checks;
 #[cfg(test)]
 mod object_tests;
+#[cfg(test)]
+mod relocated_tests;
+mod relocation_marks;
 
 pub use object_checks::object_fault;
+pub use relocation_marks::relocated_sections;
