@@ -31,6 +31,7 @@ mod StaticExamples
 mod StaticRefusals
 pub mod KeysFound
 pub mod PiecesPlaced
+pub mod TablesTold
 pub mod RowsTold
 pub mod TablesThere
 mod ValueExamples

@@ -1,13 +1,13 @@
 -- Each row of a full placement has the size and the room of its section, and the tables have rows.
-use Rattle.std.specs.Prelude.{◌≡◌, ℕ, Bool, true, false, IsTrue, List, [], ◌∷◌, ◌++◌, Option, Some, None, ◌==◌, ◌≤◌, ◌&&◌, ◌+◌, ◌*◌, nat_le, filter, map, length, refl}
+use Rattle.std.specs.Prelude.{◌≡◌, ℕ, Bool, true, false, IsTrue, List, [], ◌∷◌, ◌++◌, Option, Some, None, ◌==◌, ◌≤◌, ◌&&◌, nat_le, filter, map, refl}
 use Rattle.std.specs.List.{AllByRecursion}
 use Rattle.std.proofs.Common.{arith, sym, ap, subst, ◌∙◌}
 use Rattle.std.proofs.lemmas.Bool.Decides.{nat_tests}
-use Rattle.lk_model.specs.SectionKeys.{is_patched, is_numbered_array, got_key, got_plt_key}
-use Rattle.lk_model.specs.SectionOrder.{dynamic_sizes_where, piece_keys, slots_of, section_keys, table_sizes}
+use Rattle.lk_model.specs.SectionKeys.{is_patched, is_numbered_array}
+use Rattle.lk_model.specs.SectionOrder.{slots_of, section_keys}
 use Rattle.lk_model.specs.Rooms.{room_of, sequence_end, sequence_of}
 use Rattle.lk_model.specs.FullPlace.{Extent, extent_of, extent_with, pieces_in, size_among, table_size, rows_of, full_place}
-use Rattle.lk_model.specs.Lawful.{extent_of_row, size_of, size_with, table_sizes_at}
+use Rattle.lk_model.specs.Lawful.{extent_of_row, size_of, size_with}
 use Rattle.lk_model.specs.Views.{Resolved}
 use Rattle.lk_model.specs.declared.layouts.SectionKey.{SectionKey}
 use Rattle.lk_model.specs.declared.layouts.SectionRow.{SectionRow}
@@ -16,6 +16,7 @@ use Rattle.lk_model.proofs.InOrder.{extent_key}
 use Rattle.lk_model.proofs.PiecesApart.{room_above}
 use Rattle.lk_model.proofs.Rising.{all_map, all_filter, all_of_map}
 use Rattle.lk_model.proofs.RowsAgain.{parted, is_loaded, is_unloaded, extents_of_rows}
+use Rattle.lk_model.proofs.TablesTold.{tables_told}
 
 -- what holds of two lists holds of both joined
 all_joined : {A : Type 0} (P : A → Type 0) (xs ys : List A) → AllByRecursion P xs → AllByRecursion P ys → AllByRecursion P (xs ++ ys)
@@ -83,36 +84,13 @@ size_told r slots row told = go (table_size r slots row.key) (is_patched row.key
         let above = room_above r.options.patch end in
         rw e (rw f (fits_told row.size end row.room size' (omega (arith, size', room', above))))
 
--- the tables of a full placement are as large as the kept pieces ask for
-abbrev pub TablesAreTold : Resolved → Type 0
-TablesAreTold r = table_sizes_at r (full_place r) ≡ table_sizes r (slots_of r.needs)
-
--- in a link that is not dynamic the two tables of the GOT alone are there, whatever the rows are
-pub static_tables_told : (r : Resolved) → r.options.dynamic ≡ false → TablesAreTold r
-unfolding full_place table_sizes
-static_tables_told r static =
-    ap
-    (λ (b : Bool).
-    (got_key, 8 * length (slots_of r.needs).got)
-    ∷ (got_plt_key, 8 * (3 + length (slots_of r.needs).plt))
-    ∷ dynamic_sizes_where b r (map (λ (row : SectionRow). row.key) (full_place r).sections) (slots_of r.needs))
-    static
-    ∙ sym
-    (ap
-    (λ (b : Bool).
-    (got_key, 8 * length (slots_of r.needs).got)
-    ∷ (got_plt_key, 8 * (3 + length (slots_of r.needs).plt))
-    ∷ dynamic_sizes_where b r (piece_keys r) (slots_of r.needs))
-    static)
-
 -- each section has its size, which is at most its room
 pub full_sizes :
     (r : Resolved)
-    → TablesAreTold r
     → AllByRecursion (λ (row : SectionRow). IsTrue (row.size == size_of r (full_place r) row && nat_le row.size row.room)) (full_place r).sections
-full_sizes r same =
+full_sizes r =
     all_map
     (λ (row : SectionRow) told.
-    subst (λ (sizes : List (SectionKey × ℕ)). IsTrue (row.size == size_with (size_among sizes row.key) r row && nat_le row.size row.room)) (sym same)
+    subst (λ (sizes : List (SectionKey × ℕ)). IsTrue (row.size == size_with (size_among sizes row.key) r row && nat_le row.size row.room)) (sym (tables_told r))
     (size_told r (slots_of r.needs) row told))
     (full_place r).sections (full_rows_told r)
