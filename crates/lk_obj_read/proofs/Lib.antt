@@ -1,2 +1,3 @@
 pub mod ObjectFaults
+pub mod PiecesTold
 pub mod RelocatedSections

@@ -1,2 +1,3 @@
 pub mod ObjectParts
+pub mod PieceParts
 pub mod RelocatedSections

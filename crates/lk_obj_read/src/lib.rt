@@ -13,9 +13,11 @@
 mod object_checks;
 #[cfg(test)]
 mod object_tests;
+mod pieces;
 #[cfg(test)]
 mod relocated_tests;
 mod relocation_marks;
 
 pub use object_checks::object_fault;
+pub use pieces::pieces_of;
 pub use relocation_marks::relocated_sections;

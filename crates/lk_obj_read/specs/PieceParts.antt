@@ -1,0 +1,36 @@
+-- The pieces of an object section by section (gABI "Sections"): each by its header, by its name, and by
+-- whether it has relocations, which is known of all sections at once.
+use Rattle.std.specs.Prelude.{ℕ, ◌==◌, ◌&&◌, Bool, not, if◌then◌else◌, List, [], take, drop, bytes_eq, filter_map, Option, option_map, option_and_then}
+use Rattle.std.specs.List.{enumerate_from}
+use Rattle.lk_elf.specs.Numbers.{sht_nobits}
+use Rattle.lk_elf.specs.declared.section_header.Shdr.{Shdr}
+use Rattle.lk_model.specs.declared.layouts.SectionKey.{SectionKey}
+use Rattle.lk_model.specs.declared.summaries.PieceInfo.{PieceInfo}
+use Rattle.lk_model.specs.Elf.{section_name}
+use Rattle.lk_model.specs.Objects.{four_zeros, is_frames, piece_named, piece_with}
+use Rattle.lk_model.specs.Pieces.{key_of}
+use Rattle.lk_model.specs.Views.{Elf}
+
+-- the bytes of a section in a file of these bytes; a NOBITS section has none there
+abbrev pub held_bytes : List ℕ → Shdr → List ℕ
+held_bytes bytes header =
+    if header.sh_type == sht_nobits then [] else take header.sh_size (drop header.sh_offset bytes)
+
+-- a terminator: frames of exactly four zero bytes, of a section that is told to have relocations or none
+abbrev pub is_terminator_told : List ℕ → Bool → Shdr → SectionKey → Bool
+is_terminator_told bytes relocated header key =
+    is_frames key && bytes_eq (held_bytes bytes header) four_zeros && not relocated
+
+-- a section as a piece, by its name and by whether it has relocations
+unfoldable pub piece_told : List ℕ → Bool → ℕ → Shdr → List ℕ → Option PieceInfo
+piece_told bytes relocated n header name =
+    option_map (λ (key : SectionKey). piece_with n header name (is_terminator_told bytes relocated header key) key)
+    (key_of name header.sh_type header.sh_flags)
+
+-- a section, by its number, as a piece
+abbrev pub piece_at : Elf → ℕ × Shdr → Option PieceInfo
+piece_at elf row = option_and_then (piece_named elf row.0 row.1) (section_name elf row.0)
+
+-- the pieces among these sections, the first of which has this number
+unfoldable pub pieces_from : Elf → ℕ → List Shdr → List PieceInfo
+pieces_from elf n headers = filter_map (piece_at elf) (enumerate_from n headers)

@@ -1,0 +1,205 @@
+//! The pieces of an object: the sections that may be linked, each with its output section (gABI "Sections").
+//!
+//! Which sections have relocations is told for all of them at once, so that a terminator of frames is known
+//! by its mark and no list of relocations is looked for. Cost: one look at each section header and its name,
+//! and two names copied for each piece.
+
+ghost use Rattle.std.specs.Prelude.{◌≡◌, ◌<◌, ◌^◌, ◌++◌, List, [], bytes_eq, drop, false, length, option_and_then, option_to_list, replicate, take, IfOk, OnOk};
+ghost use Rattle.std.specs.Option.{option_copied};
+ghost use Rattle.lk_elf.specs.declared.symbol.Sym.{Sym};
+ghost use Rattle.lk_model.specs.Elf.{section_name};
+ghost use Rattle.lk_model.specs.Objects.{alignment_of, four_zeros, is_frames, piece_with, pieces_in};
+ghost use Rattle.lk_obj_parts.specs.ElfViews.{elf_from};
+ghost use Rattle.lk_obj_parts.specs.GroupMarks.{is_marked};
+ghost use Rattle.lk_obj_read.specs.PieceParts.{held_bytes, is_terminator_told, piece_told};
+ghost use Rattle.lk_obj_read.specs.RelocatedSections.{marked_by};
+
+use crate::relocation_marks::relocated_sections;
+use lk_elf::numbers::SHT_NOBITS;
+use lk_elf::{Ehdr, Shdr};
+use lk_model::layouts::{Class, SectionKey};
+use lk_model::summaries::{PieceInfo, PieceInfoList};
+use lk_obj_parts::{key_of, section_name};
+use lk_report::{Name, NoMemory};
+use std::alloc::Global;
+
+/// What stands from `at` on; nothing past the end.
+fn rest_from(bytes: &[u8], at: usize) -> &[u8]
+    ensures { result.now ≡ drop at bytes.now }
+{
+    if at < bytes.len() { &bytes[at..] } else { &[] }
+}
+
+/// At most the first `size` bytes.
+fn front_of(bytes: &[u8], size: usize) -> &[u8]
+    ensures { result.now ≡ take size bytes.now }
+{
+    if size < bytes.len() {
+        &bytes[..size]
+    } else {
+        bytes
+    }
+}
+
+/// The bytes of a section, as far as the file has them; none of a NOBITS section.
+fn held_bytes<'a>(bytes: &'a [u8], section: &Shdr) -> &'a [u8]
+    ensures { result.now ≡ held_bytes bytes.now section.now }
+{
+    if section.sh_type == SHT_NOBITS {
+        &[]
+    } else {
+        front_of(
+            rest_from(bytes, section.sh_offset as usize),
+            section.sh_size as usize,
+        )
+    }
+}
+
+/// Whether a section holds exactly four zero bytes in the file.
+fn is_four_zeros(bytes: &[u8], section: &Shdr) -> bool
+    ensures { result ≡ bytes_eq (held_bytes bytes.now section.now) four_zeros }
+{
+    held_bytes(bytes, section) == [0, 0, 0, 0].as_slice()
+}
+
+/// Whether an output section is that of frames.
+fn is_frames(key: &SectionKey) -> bool
+    ensures { result ≡ is_frames key.now }
+{
+    match key.class {
+        Class::R => key.name.as_slice() == b".eh_frame".as_slice(),
+        Class::X | Class::W | Class::WX | Class::Tdata | Class::Tbss | Class::Bss | Class::N => {
+            false
+        }
+    }
+}
+
+/// Whether a section of frames is a terminator, where it is told to have relocations or none.
+fn is_terminator(bytes: &[u8], relocated: bool, section: &Shdr, key: &SectionKey) -> bool
+    ensures { result ≡ is_terminator_told bytes.now relocated section.now key.now }
+{
+    is_frames(key) && is_four_zeros(bytes, section) && !relocated
+}
+
+/// The alignment of a section; 0 means 1.
+fn alignment_of(section: &Shdr) -> u64
+    ensures { result ≡ alignment_of section.now }
+{
+    if section.sh_addralign == 0 {
+        1
+    } else {
+        section.sh_addralign
+    }
+}
+
+#[tactic(auto, unfolding(lk_model::specs::Objects::piece_with))]
+fn piece_with(
+    n: u32,
+    section: &Shdr,
+    name: Name,
+    terminator: bool,
+    key: SectionKey,
+) -> PieceInfo
+    ensures { result ≡ piece_with n section.now name terminator key }
+{
+    PieceInfo {
+        section: n,
+        name,
+        key,
+        size: if terminator { 0 } else { section.sh_size },
+        align: alignment_of(section),
+        terminator,
+    }
+}
+
+/// A section as a piece, by its name; none where it is no piece.
+#[tactic(auto, unfolding(crate::specs::PieceParts::piece_told))]
+fn piece_named(
+    alloc: Global,
+    bytes: &[u8],
+    relocated: bool,
+    n: u32,
+    section: &Shdr,
+    name: &[u8],
+) -> Result<Option<PieceInfo>, NoMemory>
+    ensures { IfOk result (λ piece. piece ≡ piece_told bytes.now relocated n section.now name.now) }
+{
+    let Some(key) = key_of(alloc, name, section.sh_type, section.sh_flags)? else {
+        return Ok(None);
+    };
+    let name = Name::from_slice(alloc, name)?;
+    let terminator = is_terminator(bytes, relocated, section, &key);
+    Ok(Some(piece_with(n, section, name, terminator, key)))
+}
+
+/// A section as a piece; none where it is no piece, or has no name.
+fn piece_at(
+    alloc: Global,
+    bytes: &[u8],
+    header: &Ehdr,
+    sections: &[Shdr],
+    relocated: bool,
+    n: u32,
+    section: &Shdr,
+) -> Result<Option<PieceInfo>, NoMemory>
+    ensures { IfOk result (λ piece. piece ≡ option_and_then (piece_told bytes.now relocated n section.now) (section_name (elf_from bytes.now header.now sections.now []) n)) }
+{
+    match section_name(bytes, header, sections, n) {
+        None => Ok(None),
+        Some(name) => piece_named(alloc, bytes, relocated, n, section, name),
+    }
+}
+
+/// Whether a section is marked.
+fn is_marked(marks: &[bool], n: usize) -> bool
+    ensures { result ≡ is_marked marks.now n }
+{
+    match marks.get(n) {
+        None => false,
+        Some(mark) => *mark,
+    }
+}
+
+/// Puts a piece at the end, where there is one.
+fn put_piece(pieces: &mut PieceInfoList, piece: Option<PieceInfo>) -> Result<(), NoMemory>
+    ensures { OnOk result (pieces.new ≡ pieces.old ++ option_to_list piece) }
+{
+    match piece {
+        None => Ok(()),
+        Some(piece) => pieces.push(piece),
+    }
+}
+
+/// The sections of an object that may be linked, by rising section number.
+///
+/// A section number is told in 32 bits.
+///
+/// # Errors
+/// Want of memory alone.
+#[tactic(auto, using(crate::proofs::PiecesTold::piece_put))]
+pub fn pieces_of(
+    alloc: Global,
+    bytes: &[u8],
+    header: &Ehdr,
+    sections: &[Shdr],
+) -> Result<PieceInfoList, NoMemory>
+    requires few { length sections.now < 2 ^ 32 }
+    ensures { (symbols : List Sym) → IfOk result (λ pieces. pieces ≡ pieces_in (elf_from bytes.now header.now sections.now symbols)) }
+{
+    let marks = relocated_sections(alloc, bytes, sections)?;
+    let mut pieces = PieceInfoList::new(alloc);
+    for i in 1..sections.len() {
+        let relocated = is_marked(&marks, i);
+        let piece = piece_at(
+            alloc,
+            bytes,
+            header,
+            sections,
+            relocated,
+            i as u32,
+            &sections[i],
+        )?;
+        put_piece(&mut pieces, piece)?;
+    }
+    Ok(pieces)
+}
