@@ -1,3 +1,4 @@
 pub mod ObjectFaults
 pub mod PiecesTold
 pub mod RelocatedSections
+pub mod StacksAsked

@@ -1,3 +1,4 @@
 pub mod ObjectParts
 pub mod PieceParts
 pub mod RelocatedSections
+pub mod StackRequests

@@ -17,7 +17,11 @@ mod pieces;
 #[cfg(test)]
 mod relocated_tests;
 mod relocation_marks;
+mod stack_requests;
+mod summaries;
 
 pub use object_checks::object_fault;
 pub use pieces::pieces_of;
 pub use relocation_marks::relocated_sections;
+pub use stack_requests::asks_exec_stack;
+pub use summaries::read_summary;
