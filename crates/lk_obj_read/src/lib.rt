@@ -19,6 +19,8 @@ mod relocated_tests;
 mod relocation_marks;
 mod stack_requests;
 mod summaries;
+#[cfg(test)]
+mod summary_tests;
 
 pub use object_checks::object_fault;
 pub use pieces::pieces_of;
