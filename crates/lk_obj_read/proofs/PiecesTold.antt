@@ -1,6 +1,6 @@
 -- The pieces of an object, section after section, where marks tell which sections have relocations.
-use Rattle.std.specs.Prelude.{◌≡◌, refl, ℕ, zero, suc, ◌+◌, ◌<◌, ◌≤◌, ◌==◌, Bool, true, false, not, ◌&&◌, List, [], ◌∷◌, ◌++◌, bytes_eq, drop, filter_map, flat_map, length, replicate, slice_get, Option, Some, None, option_and_then, option_map, option_to_list}
-use Rattle.std.specs.List.{cons_option, enumerate_from}
+use Rattle.std.specs.Prelude.{◌≡◌, refl, ℕ, zero, suc, ◌+◌, ◌<◌, ◌≤◌, ◌==◌, Bool, true, false, not, ◌&&◌, List, [], ◌∷◌, ◌++◌, bytes_eq, drop, filter_map, length, replicate, Option, Some, None, option_and_then, option_map, option_to_list}
+use Rattle.std.specs.List.{cons_option}
 use Rattle.std.proofs.Common.{ap, ◌∙◌, sym, arith, append_assoc, append-nil, get_or}
 use Rattle.std.proofs.lemmas.Option.{slice_get-get_or}
 use Rattle.lk_elf.specs.declared.file_header.Ehdr.{Ehdr}
@@ -69,8 +69,8 @@ piece_put bytes header sections symbols marks pieces i d p l e =
     ap (λ (rows : List (ℕ × Shdr)). pieces ++ filter_map (piece_at elf) rows) (rows_next i sections d l)
     ∙ first pieces (piece_at elf (i, get_or sections i d)) (pieces_from elf (i + 1) (drop (i + 1) sections))
     ∙ ap (λ (o : Option PieceInfo). (pieces ++ option_to_list o) ++ pieces_from elf (i + 1) (drop (i + 1) sections))
-        (piece_told_at elf (is_marked marks i) i (get_or sections i d) (section_name elf i) (found elf i d p l) (told elf marks i l e)
-        ∙ ap (option_and_then (piece_told bytes (is_marked marks i) i (get_or sections i d))) (section_name_unread bytes header sections symbols i))
+    (piece_told_at elf (is_marked marks i) i (get_or sections i d) (section_name elf i) (found elf i d p l) (told elf marks i l e)
+    ∙ ap (option_and_then (piece_told bytes (is_marked marks i) i (get_or sections i d))) (section_name_unread bytes header sections symbols i))
 
 no_pieces_left : (elf : Elf) (pieces : List PieceInfo) (i : ℕ) (headers : List Shdr) → length headers ≤ i → pieces ++ pieces_from elf i (drop i headers) ≡ pieces
 unfolding pieces_from

@@ -1,7 +1,7 @@
 -- Requests for an executable stack, section after section; they are told without the symbols.
-use Rattle.std.specs.Prelude.{◌≡◌, refl, ℕ, ◌+◌, ◌<◌, ◌≤◌, Bool, true, false, ◌||◌, ◌&&◌, bytes_eq, codes, List, [], ◌∷◌, drop, length}
-use Rattle.std.specs.List.{enumerate_from, list_any}
-use Rattle.std.proofs.Common.{ap, ◌∙◌, sym, get_or}
+use Rattle.std.specs.Prelude.{◌≡◌, refl, ℕ, ◌+◌, ◌<◌, ◌≤◌, true, false, ◌||◌, ◌&&◌, bytes_eq, codes, List, [], ◌∷◌, drop, length}
+use Rattle.std.specs.List.{list_any}
+use Rattle.std.proofs.Common.{ap, ◌∙◌, get_or}
 use Rattle.lk_elf.specs.Numbers.{shf_execinstr}
 use Rattle.lk_elf.specs.declared.file_header.Ehdr.{Ehdr}
 use Rattle.lk_elf.specs.declared.section_header.Shdr.{Shdr}

@@ -4,7 +4,8 @@
 //! `object_fault` is the first fault of a file by all checks in their order, or none: a validating reader.
 //! Its contract cites the definition of that name in lk_model (ObjectChecks); the passes that it goes
 //! through, and what they read, stand in lk_obj_parts. `relocated_sections` tells which sections have
-//! relocations.
+//! relocations. `read_summary` is what a link keeps of an object: pieces (`pieces_of`), symbols, groups, and
+//! whether it asks for an executable stack (`asks_exec_stack`); it cites `summary_in` of lk_model (Objects).
 //!
 //! Callers rely on one law: what is answered is the definition's value, on any bytes. Want of memory alone
 //! is tied to no cause.

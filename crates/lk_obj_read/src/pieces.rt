@@ -93,13 +93,7 @@ fn alignment_of(section: &Shdr) -> u64
 }
 
 #[tactic(auto, unfolding(lk_model::specs::Objects::piece_with))]
-fn piece_with(
-    n: u32,
-    section: &Shdr,
-    name: Name,
-    terminator: bool,
-    key: SectionKey,
-) -> PieceInfo
+fn piece_with(n: u32, section: &Shdr, name: Name, terminator: bool, key: SectionKey) -> PieceInfo
     ensures { result ≡ piece_with n section.now name terminator key }
 {
     PieceInfo {

@@ -13,8 +13,7 @@ use std::alloc::Global;
 use std::test::Fail;
 
 /// Four zeros, the two words of a group, and names from 12 on.
-const FILE: [u8; 48] =
-    *b"\0\0\0\0\x01\0\0\0\x05\0\0\0\0.eh_frame\0.note.GNU-stack\0.bss\0sig\0";
+const FILE: [u8; 48] = *b"\0\0\0\0\x01\0\0\0\x05\0\0\0\0.eh_frame\0.note.GNU-stack\0.bss\0sig\0";
 
 const FRAMES_NAME: u32 = 1;
 
