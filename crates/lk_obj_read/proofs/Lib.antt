@@ -2,3 +2,4 @@ pub mod ObjectFaults
 pub mod PiecesTold
 pub mod RelocatedSections
 pub mod StacksAsked
+pub mod RelocationLists

@@ -2,3 +2,4 @@ pub mod ObjectParts
 pub mod PieceParts
 pub mod RelocatedSections
 pub mod StackRequests
+pub mod RelocationLists

@@ -17,6 +17,7 @@ mod object_tests;
 mod pieces;
 #[cfg(test)]
 mod relocated_tests;
+mod relocation_lists;
 mod relocation_marks;
 mod stack_requests;
 mod summaries;
