@@ -3,3 +3,4 @@ pub mod PieceParts
 pub mod RelocatedSections
 pub mod StackRequests
 pub mod RelocationLists
+pub mod ReadObjects

@@ -11,6 +11,8 @@
 //! is tied to no cause.
 #![tactic(auto)]
 
+mod failures;
+mod file_parts;
 mod object_checks;
 #[cfg(test)]
 mod object_tests;
@@ -24,6 +26,7 @@ mod summaries;
 #[cfg(test)]
 mod summary_tests;
 
+pub use failures::ReadFailure;
 pub use object_checks::object_fault;
 pub use pieces::pieces_of;
 pub use relocation_marks::relocated_sections;

@@ -10,7 +10,10 @@ ghost use Rattle.lk_model.specs.Kinds.{kind_checks};
 ghost use Rattle.lk_model.specs.ObjectChecks.{object_checks, object_fault};
 ghost use Rattle.lk_obj_parts.specs.ElfViews.{elf_from};
 ghost use Rattle.lk_obj_read.specs.ObjectParts.{reference_half, table_half};
+ghost use Rattle.lk_obj_read.specs.ReadObjects.{ArePartsOf, ReadGives};
 
+use crate::failures::ReadFailure;
+use crate::file_parts::FileParts;
 use lk_elf::{Ehdr, Shdr, Sym};
 use lk_obj_parts::{
     groups_fault, overlap_fault, read_sections, read_symbols, rela_faults, sections_fault,
@@ -86,31 +89,60 @@ fn parts_fault(
     references_fault(alloc, bytes, header, sections, symbols)
 }
 
-/// The first fault of a file with this header, which is one of ELF64 for this machine.
-fn checks_fault(alloc: Global, bytes: &[u8], header: &Ehdr) -> Result<Option<InputFault>, NoMemory>
-    requires few_entries { length bytes.now ≤ 24 * 2 ^ 32 }
-    requires its_own { header.now ≡ ehdr_at bytes.now 0 }
-    ensures { IfOk result (λ fault. fault ≡ first_fault (object_checks (elf_of bytes.now))) }
+/// The parts of a file with this header.
+fn read_parts(alloc: Global, bytes: &[u8], header: Ehdr) -> Result<FileParts, NoMemory>
+    requires its_own { header ≡ ehdr_at bytes.now 0 }
+    ensures { IfOk result (ArePartsOf bytes.now) }
 {
-    let sections = read_sections(alloc, bytes, header)?;
+    let sections = read_sections(alloc, bytes, &header)?;
     let symbols = read_symbols(alloc, bytes, &sections)?;
-    parts_fault(alloc, bytes, header, &sections, &symbols)
+    Ok(FileParts {
+        header,
+        sections,
+        symbols,
+    })
+}
+
+/// The parts of a file with this header, which is one of ELF64 for this machine, or the first fault of its
+/// checks.
+fn checked_parts(alloc: Global, bytes: &[u8], header: Ehdr) -> Result<FileParts, ReadFailure>
+    requires few_entries { length bytes.now ≤ 24 * 2 ^ 32 }
+    requires its_own { header ≡ ehdr_at bytes.now 0 }
+    ensures { ReadGives (first_fault (object_checks (elf_of bytes.now))) (ArePartsOf bytes.now) result }
+{
+    let parts = read_parts(alloc, bytes, header)?;
+    match parts_fault(alloc, bytes, &parts.header, &parts.sections, &parts.symbols)? {
+        Some(fault) => Err(ReadFailure::Input(fault)),
+        None => Ok(parts),
+    }
+}
+
+/// The parts of a file that can be linked as an object, or its first fault.
+#[tactic(auto, using(crate::proofs::ObjectFaults::kind_told, crate::proofs::ObjectFaults::no_header, crate::proofs::ObjectFaults::checks_told))]
+pub(crate) fn sound_parts(alloc: Global, bytes: &[u8]) -> Result<FileParts, ReadFailure>
+    requires few_entries { length bytes.now ≤ 24 * 2 ^ 32 }
+    ensures { ReadGives (object_fault bytes.now) (ArePartsOf bytes.now) result }
+{
+    if let Err(fault) = kind_of(bytes) {
+        return Err(ReadFailure::Input(fault));
+    }
+    match Ehdr::read_at(bytes, 0) {
+        Ok(header) => checked_parts(alloc, bytes, header),
+        Err(_) => Err(ReadFailure::Input(InputFault::NotElf)),
+    }
 }
 
 /// The first fault of a file that is read as an object; none where it is one. At most 96 GiB.
 ///
 /// # Errors
 /// Want of memory alone.
-#[tactic(auto, using(crate::proofs::ObjectFaults::kind_told, crate::proofs::ObjectFaults::no_header, crate::proofs::ObjectFaults::checks_told))]
 pub fn object_fault(alloc: Global, bytes: &[u8]) -> Result<Option<InputFault>, NoMemory>
     requires few_entries { length bytes.now ≤ 24 * 2 ^ 32 }
     ensures { IfOk result (λ fault. fault ≡ object_fault bytes.now) }
 {
-    if let Err(fault) = kind_of(bytes) {
-        return Ok(Some(fault));
-    }
-    match Ehdr::read_at(bytes, 0) {
-        Ok(header) => checks_fault(alloc, bytes, &header),
-        Err(_) => Ok(Some(InputFault::NotElf)),
+    match sound_parts(alloc, bytes) {
+        Ok(_) => Ok(None),
+        Err(ReadFailure::Input(fault)) => Ok(Some(fault)),
+        Err(ReadFailure::NoMemory) => Err(NoMemory),
     }
 }

@@ -1,0 +1,37 @@
+-- What reading an object answers, the parts that are read for it, and what an object holds of its bytes
+-- (gABI "Sections", "Symbol Table", "Relocation").
+use Rattle.std.specs.Prelude.{◌≡◌, ℕ, ◌^◌, ◌<◌, List, [], length, slice_index_or, Option, Some, None, Result, Ok, Err}
+use Rattle.lk_elf.specs.declared.section_header.Shdr.{Shdr}
+use Rattle.lk_elf.specs.declared.symbol.Sym.{Sym}
+use Rattle.lk_elf.specs.declared.relocation.Rela.{Rela}
+use Rattle.lk_report.specs.declared.faults.InputFault.{InputFault}
+use Rattle.lk_model.specs.declared.summaries.InputSummary.{InputSummary}
+use Rattle.lk_model.specs.Elf.{elf_of}
+use Rattle.lk_model.specs.ObjectChecks.{object_fault}
+use Rattle.lk_model.specs.Objects.{relocations_in, summary_in}
+use Rattle.lk_obj_parts.specs.ElfViews.{elf_from}
+use Rattle.lk_obj_read.specs.declared.failures.ReadFailure.{ReadFailure}
+use Rattle.lk_obj_read.specs.declared.failures.ReadFailure.TheVariants.{Input, NoMemory}
+use Rattle.lk_obj_read.specs.declared.file_parts.FileParts.{FileParts}
+
+-- what is answered of a file with this first fault: the fault, or where there is none a value of which
+-- this holds; want of memory is tied to no cause
+abbrev pub ReadGives : {X : Type 0} → Option InputFault → (X → Type 0) → Result X ReadFailure → Type 0
+ReadGives fault P (Ok x) = (fault ≡ None) × P x
+ReadGives fault P (Err (Input told)) = fault ≡ Some told
+ReadGives fault P (Err NoMemory) = Unit {0}
+
+-- the parts of the file that bytes are
+pub record ArePartsOf (bytes : List ℕ) (parts : FileParts) : Type 0 where
+  pub elf : elf_of bytes ≡ elf_from bytes parts.header parts.sections.items parts.symbols.items
+  pub few_sections : length parts.sections.items < 2 ^ 32
+  pub few_symbols : length parts.symbols.items < 2 ^ 32
+
+-- what an object holds of its bytes, which have no fault
+pub record IsRead (bytes : List ℕ) (headers : List Shdr) (entries : List Sym) (kept : InputSummary) (lists : List (List Rela)) : Type 0 where
+  pub sound : object_fault bytes ≡ None
+  pub sections : headers ≡ (elf_of bytes).sections
+  pub symbols : entries ≡ (elf_of bytes).symbols
+  pub summary : kept ≡ summary_in (elf_of bytes)
+  pub count : length lists ≡ length (elf_of bytes).sections
+  pub relocations : (n : ℕ) → n < length (elf_of bytes).sections → slice_index_or lists n [] ≡ relocations_in (elf_of bytes) n
