@@ -3,3 +3,4 @@ pub mod PiecesTold
 pub mod RelocatedSections
 pub mod StacksAsked
 pub mod RelocationLists
+pub mod ObjectsHeld

@@ -14,8 +14,10 @@
 mod failures;
 mod file_parts;
 mod object_checks;
+mod object_reading;
 #[cfg(test)]
 mod object_tests;
+mod objects;
 mod pieces;
 #[cfg(test)]
 mod relocated_tests;
@@ -28,7 +30,10 @@ mod summary_tests;
 
 pub use failures::ReadFailure;
 pub use object_checks::object_fault;
+pub use object_reading::read_object;
+pub use objects::Object;
 pub use pieces::pieces_of;
+pub use relocation_lists::RelaList;
 pub use relocation_marks::relocated_sections;
 pub use stack_requests::asks_exec_stack;
 pub use summaries::read_summary;

@@ -42,7 +42,7 @@ fn front_of(bytes: &[u8], size: usize) -> &[u8]
 }
 
 /// The bytes of a section, as far as the file has them; none of a NOBITS section.
-fn held_bytes<'a>(bytes: &'a [u8], section: &Shdr) -> &'a [u8]
+pub(crate) fn held_bytes<'a>(bytes: &'a [u8], section: &Shdr) -> &'a [u8]
     ensures { result.now ≡ held_bytes bytes.now section.now }
 {
     if section.sh_type == SHT_NOBITS {

@@ -1,0 +1,44 @@
+-- What an object holds of a piece.
+use Rattle.std.specs.Prelude.{◌≡◌, refl, Bool, true, false, ℕ, zero, suc, ◌<◌, ◌≤◌, ◌==◌, IsTrue, List, [], ◌++◌, drop, take, flat_map, if◌then◌else◌, is_some, length, option_to_list, slice_get, Some, None, Option, ◌⊎◌}
+use mathlib.Core.Logic.{⊎_elim}
+use Rattle.std.proofs.Common.{ap, get_or, subst, sym, ◌∙◌}
+use Rattle.std.proofs.lemmas.List.{append-nil}
+use Rattle.std.proofs.lemmas.Option.{slice_get-get_or, slice_get_cases}
+use Rattle.lk_elf.specs.Numbers.{sht_nobits}
+use Rattle.lk_elf.specs.declared.section_header.Shdr.{Shdr}
+use Rattle.lk_model.specs.Checks.{is_some_with}
+use Rattle.lk_model.specs.Elf.{bytes_under, elf_of, elf_under, elf_with, section_at}
+use Rattle.lk_model.specs.Objects.{is_piece_in, key_in, piece_bytes_in}
+use Rattle.lk_model.specs.Views.{Elf}
+use Rattle.lk_obj_read.specs.PieceParts.{held_bytes}
+
+there : (test : Shdr → Bool) (hs : List Shdr) (n : ℕ) → IsTrue (is_some_with test (slice_get hs n)) → n < length hs
+there test hs n e = ⊎_elim (λ p. p.1) (λ p. not_there (subst (λ (o : Option Shdr). IsTrue (is_some_with test o)) p.1 e)) (slice_get_cases hs n).1
+  where
+    not_there : false ≡ true → n < length hs
+    not_there e = cc
+
+-- a piece is one of the sections
+pub is_there : (elf : Elf) (n : ℕ) → IsTrue (is_piece_in elf n) → n < length elf.sections
+is_there elf zero e = cc
+is_there elf (suc n) e = there (λ (header : Shdr). is_some (key_in elf (suc n) header)) elf.sections (suc n) e
+
+-- its bytes are those that its header names
+bytes_told : (elf : Elf) (n : ℕ) (d : Shdr) → IsTrue (is_piece_in elf n) → piece_bytes_in elf n ≡ held_bytes elf.bytes (get_or elf.sections n d)
+unfolding piece_bytes_in
+bytes_told elf zero d e = cc
+bytes_told elf (suc n) d e =
+    ap (λ (o : Option Shdr). flat_map (λ (header : Shdr). if header.sh_type == sht_nobits then [] else bytes_under elf header) (option_to_list o))
+    (slice_get-get_or elf.sections (suc n) d (is_there elf (suc n) e))
+    ∙ append-nil (held_bytes elf.bytes (get_or elf.sections (suc n) d))
+
+bytes_of : (bytes : List ℕ) → (elf_of bytes).bytes ≡ bytes
+unfolding elf_of elf_under elf_with
+bytes_of bytes = refl
+
+pub held_told : (bytes : List ℕ) (n : ℕ) (headers : List Shdr) (h : Shdr) → IsTrue (is_piece_in (elf_of bytes) n) → headers ≡ (elf_of bytes).sections → h ≡ get_or headers n h → piece_bytes_in (elf_of bytes) n ≡ held_bytes bytes h
+held_told bytes n headers h piece e is =
+    bytes_told (elf_of bytes) n h piece
+    ∙ ap (λ b. held_bytes b (get_or (elf_of bytes).sections n h)) (bytes_of bytes)
+    ∙ ap (λ (hs : List Shdr). held_bytes bytes (get_or hs n h)) (sym e)
+    ∙ ap (λ x. held_bytes bytes x) (sym is)

@@ -1,0 +1,74 @@
+//! An object as it was read: its bytes, and beside them what is asked for more than once. Contracts see it
+//! as its bytes; each answer is the definition's value of the file that they are.
+
+ghost use Rattle.std.specs.Prelude.{◌≡◌, IsTrue, None};
+ghost use Rattle.lk_model.specs.Elf.{elf_of};
+ghost use Rattle.lk_model.specs.ObjectChecks.{object_fault};
+ghost use Rattle.lk_model.specs.Objects.{is_piece_in, local_in, piece_bytes_in, relocations_in, summary_in};
+
+use crate::pieces::held_bytes;
+use crate::relocation_lists::RelaList;
+use lk_elf::{Shdr, Sym};
+use lk_model::summaries::{InputSummary, Local};
+use lk_obj_parts::local_of;
+use lk_report::Bytes;
+use std::marker::Model;
+
+/// An object that has no fault, as it was read. It owns the bytes of its file, once; its sections are
+/// slices of them.
+#[derive(Drop)]
+pub struct Object {
+    pub(crate) bytes: Bytes,
+    pub(crate) sections: Vec<Shdr>,
+    pub(crate) symbols: Vec<Sym>,
+    pub(crate) summary: InputSummary,
+    pub(crate) relocations: Vec<RelaList>,
+}
+
+impl Model for Object {
+    ghost use Rattle.std.specs.Prelude.{ℕ, List};
+
+    ghost Value = { List ℕ };
+
+    ghost use Rattle.lk_obj_read.specs.ReadObjects.{IsRead};
+
+    ghost view = { λ o. o.bytes };
+
+    ghost invariant = { λ o. IsRead o.bytes o.sections.items o.symbols.items o.summary o.relocations.items };
+}
+
+impl Object {
+    /// What a link keeps of the object. Takes no memory.
+    pub fn summary(&self) -> &InputSummary
+        ensures value { result.now ≡ summary_in (elf_of self.now) }
+        ensures sound { object_fault self.now ≡ None }
+    {
+        &self.summary
+    }
+
+    /// The bytes of a piece in the file; none of a NOBITS section. Takes no memory.
+    #[tactic(auto, using(crate::proofs::ObjectsHeld::is_there, crate::proofs::ObjectsHeld::held_told))]
+    pub fn piece_bytes(&self, section: u32) -> &[u8]
+        requires { IsTrue (is_piece_in (elf_of self.now) section) }
+        ensures { result.now ≡ piece_bytes_in (elf_of self.now) section }
+    {
+        held_bytes(self.bytes.as_slice(), &self.sections[section as usize])
+    }
+
+    /// The relocations of a piece, by the section that holds them and entry. Takes no memory.
+    #[tactic(auto, using(crate::proofs::ObjectsHeld::is_there))]
+    pub fn relocations(&self, section: u32) -> &RelaList
+        requires { IsTrue (is_piece_in (elf_of self.now) section) }
+        ensures { result.now ≡ relocations_in (elf_of self.now) section }
+    {
+        &self.relocations[section as usize]
+    }
+
+    /// A LOCAL symbol by its number; the null symbol for number 0, whatever its bytes are, and for a number
+    /// that no symbol has. Takes no memory.
+    pub fn local(&self, symbol: u32) -> Local
+        ensures { result ≡ local_in (elf_of self.now) symbol }
+    {
+        local_of(&self.symbols, symbol)
+    }
+}
