@@ -4,3 +4,4 @@ pub mod RelocatedSections
 pub mod StacksAsked
 pub mod RelocationLists
 pub mod ObjectsHeld
+pub mod LocalsRead

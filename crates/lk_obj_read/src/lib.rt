@@ -13,6 +13,7 @@
 
 mod failures;
 mod file_parts;
+mod local_symbols;
 mod object_checks;
 mod object_reading;
 #[cfg(test)]
@@ -27,6 +28,7 @@ mod stack_requests;
 mod summaries;
 #[cfg(test)]
 mod summary_tests;
+mod symbol_places;
 
 pub use failures::ReadFailure;
 pub use object_checks::object_fault;

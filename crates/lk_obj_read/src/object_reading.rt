@@ -6,6 +6,7 @@ ghost use Rattle.lk_model.specs.ObjectChecks.{object_fault};
 ghost use Rattle.lk_obj_read.specs.ReadObjects.{ReadGives};
 
 use crate::failures::ReadFailure;
+use crate::local_symbols::place_of_symbols;
 use crate::object_checks::sound_parts;
 use crate::objects::Object;
 use crate::relocation_lists::relocations_by_target;
@@ -14,8 +15,7 @@ use lk_report::Bytes;
 use std::alloc::Global;
 
 /// Reads a file as an object (gABI "Object Files"). The object takes the bytes, and copies none of them;
-/// beside them it takes 24 bytes a symbol and a relocation, 64 bytes a section, and its summary. At most
-/// 96 GiB.
+/// beside them it takes 24 bytes a relocation, about 100 bytes a section, and its summary. At most 96 GiB.
 ///
 /// # Errors
 /// The file's first fault, or want of memory, which is tied to no cause. The bytes are then dropped.
@@ -23,19 +23,21 @@ pub fn read_object(alloc: Global, bytes: Bytes) -> Result<Object, ReadFailure>
     requires { length bytes ≤ 24 * 2 ^ 32 }
     ensures { ReadGives (object_fault bytes) (λ object. object ≡ bytes) result }
 {
-    let parts = sound_parts(alloc, bytes.as_slice())?;
+    let file = bytes.as_slice();
+    let parts = sound_parts(alloc, file)?;
     let summary = read_summary(
         alloc,
-        bytes.as_slice(),
+        file,
         &parts.header,
         &parts.sections,
         &parts.symbols,
     )?;
-    let relocations = relocations_by_target(alloc, bytes.as_slice(), &parts.sections)?;
+    let relocations = relocations_by_target(alloc, file, &parts.sections)?;
+    let symbols = place_of_symbols(file, &parts.sections);
     Ok(Object {
         bytes,
         sections: parts.sections,
-        symbols: parts.symbols,
+        symbols,
         summary,
         relocations,
     })

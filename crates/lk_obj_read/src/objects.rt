@@ -6,11 +6,12 @@ ghost use Rattle.lk_model.specs.Elf.{elf_of};
 ghost use Rattle.lk_model.specs.ObjectChecks.{object_fault};
 ghost use Rattle.lk_model.specs.Objects.{is_piece_in, local_in, piece_bytes_in, relocations_in, summary_in};
 
+use crate::local_symbols::local_at;
 use crate::pieces::held_bytes;
 use crate::relocation_lists::RelaList;
-use lk_elf::{Shdr, Sym};
+use crate::symbol_places::SymbolPlace;
+use lk_elf::Shdr;
 use lk_model::summaries::{InputSummary, Local};
-use lk_obj_parts::local_of;
 use lk_report::Bytes;
 use std::marker::Model;
 
@@ -20,7 +21,7 @@ use std::marker::Model;
 pub struct Object {
     pub(crate) bytes: Bytes,
     pub(crate) sections: Vec<Shdr>,
-    pub(crate) symbols: Vec<Sym>,
+    pub(crate) symbols: SymbolPlace,
     pub(crate) summary: InputSummary,
     pub(crate) relocations: Vec<RelaList>,
 }
@@ -34,7 +35,7 @@ impl Model for Object {
 
     ghost view = { λ o. o.bytes };
 
-    ghost invariant = { λ o. IsRead o.bytes o.sections.items o.symbols.items o.summary o.relocations.items };
+    ghost invariant = { λ o. IsRead o.bytes o.sections.items o.symbols o.summary o.relocations.items };
 }
 
 impl Object {
@@ -66,9 +67,10 @@ impl Object {
 
     /// A LOCAL symbol by its number; the null symbol for number 0, whatever its bytes are, and for a number
     /// that no symbol has. Takes no memory.
+    #[tactic(auto, using(lk_obj_parts::proofs::SymbolRows::local_told))]
     pub fn local(&self, symbol: u32) -> Local
         ensures { result ≡ local_in (elf_of self.now) symbol }
     {
-        local_of(&self.symbols, symbol)
+        local_at(self.bytes.as_slice(), self.symbols, symbol)
     }
 }
