@@ -5,3 +5,4 @@ pub mod StacksAsked
 pub mod RelocationLists
 pub mod ObjectsHeld
 pub mod LocalsRead
+pub mod PiecesListed

@@ -66,8 +66,8 @@ pub symbols_stand : (bytes : List ℕ) (h : Ehdr) (s t : List Shdr) (ys : List S
 symbols_stand bytes h s t ys place e same p = record {
   within = p.within;
   each =
-    symbols_told bytes
-    ∙ ap (λ (elf : Elf). symbols_of bytes (first_of_type sht_symtab elf.sections)) e
-    ∙ ap (λ (hs : List Shdr). symbols_of bytes (first_of_type sht_symtab hs)) (sym same)
-    ∙ p.each;
+      symbols_told bytes
+      ∙ ap (λ (elf : Elf). symbols_of bytes (first_of_type sht_symtab elf.sections)) e
+      ∙ ap (λ (hs : List Shdr). symbols_of bytes (first_of_type sht_symtab hs)) (sym same)
+      ∙ p.each;
 }

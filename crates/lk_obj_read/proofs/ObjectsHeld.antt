@@ -1,5 +1,5 @@
 -- What an object holds of a piece.
-use Rattle.std.specs.Prelude.{◌≡◌, refl, Bool, true, false, ℕ, zero, suc, ◌<◌, ◌≤◌, ◌==◌, IsTrue, List, [], ◌++◌, drop, take, flat_map, if◌then◌else◌, is_some, length, option_to_list, slice_get, Some, None, Option, ◌⊎◌}
+use Rattle.std.specs.Prelude.{◌≡◌, refl, Bool, true, false, ℕ, zero, suc, ◌<◌, ◌≤◌, ◌==◌, IsTrue, All, List, [], ◌++◌, drop, take, flat_map, if◌then◌else◌, is_some, length, option_to_list, slice_get, Some, None, Option, ◌⊎◌}
 use mathlib.Core.Logic.{⊎_elim}
 use Rattle.std.proofs.Common.{ap, get_or, subst, sym, ◌∙◌}
 use Rattle.std.proofs.lemmas.List.{append-nil}
@@ -8,9 +8,12 @@ use Rattle.lk_elf.specs.Numbers.{sht_nobits}
 use Rattle.lk_elf.specs.declared.section_header.Shdr.{Shdr}
 use Rattle.lk_model.specs.Checks.{is_some_with}
 use Rattle.lk_model.specs.Elf.{bytes_under, elf_of, elf_under, elf_with, section_at}
-use Rattle.lk_model.specs.Objects.{is_piece_in, key_in, piece_bytes_in}
+use Rattle.lk_model.specs.Objects.{is_piece_in, key_in, piece_bytes_in, summary_in}
 use Rattle.lk_model.specs.Views.{Elf}
+use Rattle.lk_model.specs.declared.summaries.InputSummary.{InputSummary}
+use Rattle.lk_model.specs.declared.summaries.PieceInfo.{PieceInfo}
 use Rattle.lk_obj_read.specs.PieceParts.{held_bytes}
+use Rattle.lk_obj_read.proofs.PiecesListed.{listed}
 
 there : (test : Shdr → Bool) (hs : List Shdr) (n : ℕ) → IsTrue (is_some_with test (slice_get hs n)) → n < length hs
 there test hs n e = ⊎_elim (λ p. p.1) (λ p. not_there (subst (λ (o : Option Shdr). IsTrue (is_some_with test o)) p.1 e)) (slice_get_cases hs n).1
@@ -42,3 +45,9 @@ held_told bytes n headers h piece e is =
     ∙ ap (λ b. held_bytes b (get_or (elf_of bytes).sections n h)) (bytes_of bytes)
     ∙ ap (λ (hs : List Shdr). held_bytes bytes (get_or hs n h)) (sym e)
     ∙ ap (λ x. held_bytes bytes x) (sym is)
+
+-- ---- the pieces of its summary
+
+pub pieces_told : (bytes : List ℕ) (summary : InputSummary) → summary ≡ summary_in (elf_of bytes) → All (λ (piece : PieceInfo). IsTrue (is_piece_in (elf_of bytes) piece.section)) summary.pieces
+unfolding summary_in
+pieces_told bytes summary e = subst (λ (s : InputSummary). All (λ (piece : PieceInfo). IsTrue (is_piece_in (elf_of bytes) piece.section)) s.pieces) (sym e) (listed (elf_of bytes))

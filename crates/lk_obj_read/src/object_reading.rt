@@ -25,13 +25,7 @@ pub fn read_object(alloc: Global, bytes: Bytes) -> Result<Object, ReadFailure>
 {
     let file = bytes.as_slice();
     let parts = sound_parts(alloc, file)?;
-    let summary = read_summary(
-        alloc,
-        file,
-        &parts.header,
-        &parts.sections,
-        &parts.symbols,
-    )?;
+    let summary = read_summary(alloc, file, &parts.header, &parts.sections, &parts.symbols)?;
     let relocations = relocations_by_target(alloc, file, &parts.sections)?;
     let symbols = place_of_symbols(file, &parts.sections);
     Ok(Object {

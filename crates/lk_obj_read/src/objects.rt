@@ -1,7 +1,7 @@
 //! An object as it was read: its bytes, and beside them what is asked for more than once. Contracts see it
 //! as its bytes; each answer is the definition's value of the file that they are.
 
-ghost use Rattle.std.specs.Prelude.{◌≡◌, IsTrue, None};
+ghost use Rattle.std.specs.Prelude.{◌≡◌, All, IsTrue, None};
 ghost use Rattle.lk_model.specs.Elf.{elf_of};
 ghost use Rattle.lk_model.specs.ObjectChecks.{object_fault};
 ghost use Rattle.lk_model.specs.Objects.{is_piece_in, local_in, piece_bytes_in, relocations_in, summary_in};
@@ -40,9 +40,14 @@ impl Model for Object {
 
 impl Object {
     /// What a link keeps of the object. Takes no memory.
+    ///
+    /// An object has no fault, and what it lists as pieces are pieces, for which the calls below may be
+    /// asked.
+    #[tactic(auto, using(crate::proofs::ObjectsHeld::pieces_told))]
     pub fn summary(&self) -> &InputSummary
         ensures value { result.now ≡ summary_in (elf_of self.now) }
         ensures sound { object_fault self.now ≡ None }
+        ensures pieces { All (λ piece. IsTrue (is_piece_in (elf_of self.now) piece.section)) result.now.pieces }
     {
         &self.summary
     }
