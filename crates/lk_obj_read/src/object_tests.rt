@@ -9,7 +9,7 @@ use std::alloc::Global;
 use std::test::Fail;
 
 /// An object with 16 bytes of code, a symbol in it and an undefined one, and two relocations.
-const OBJECT: [u8; 640] = [
+pub(crate) const OBJECT: [u8; 640] = [
     0x7f, 0x45, 0x4c, 0x46, 2, 1, 1, 0, 0, 0, 0, 0, 0, 0, 0, 0, 1, 0, 0x3e, 0, 1, 0, 0, 0, 0, 0, 0,
     0, 0, 0, 0, 0, 0, 0, 0, 0, 0, 0, 0, 0, 0, 1, 0, 0, 0, 0, 0, 0, 0, 0, 0, 0, 0x40, 0, 0, 0, 0, 0,
     0x40, 0, 6, 0, 5, 0, 0x90, 0x90, 0x90, 0x90, 0x90, 0x90, 0x90, 0x90, 0x90, 0x90, 0x90, 0x90,
@@ -45,13 +45,13 @@ const MACHINE: usize = 18;
 
 const ENTRY_SIZE: usize = 58;
 
-const TEXT_ALIGNMENT: usize = 368;
+pub(crate) const TEXT_ALIGNMENT: usize = 368;
 
-const SYMBOL_INFO: usize = 156;
+pub(crate) const SYMBOL_INFO: usize = 156;
 
 const SYMBOL_SECTION: usize = 158;
 
-const FIRST_OFFSET: usize = 80;
+pub(crate) const FIRST_OFFSET: usize = 80;
 
 const FIRST_SYMBOL: usize = 92;
 
@@ -66,7 +66,7 @@ fn told(alloc: Global, bytes: &[u8]) -> Result<Told, Fail>
 }
 
 /// The object with another byte at a place.
-fn changed(at: usize, byte: u8) -> [u8; 640] {
+pub(crate) fn changed(at: usize, byte: u8) -> [u8; 640] {
     let mut bytes = OBJECT;
     if at < bytes.len() {
         bytes[at] = byte;

@@ -6,7 +6,7 @@ use lk_elf::numbers::{SHT_NULL, SHT_PROGBITS, SHT_RELA};
 use std::test::Fail;
 
 /// A section of this type with this target and these bytes of the file.
-fn section(sh_type: u32, sh_info: u32, sh_offset: u64, sh_size: u64) -> Shdr {
+pub(crate) fn section(sh_type: u32, sh_info: u32, sh_offset: u64, sh_size: u64) -> Shdr {
     Shdr {
         sh_name: 0,
         sh_type,
