@@ -6,3 +6,4 @@ pub mod RelocationLists
 pub mod ObjectsHeld
 pub mod LocalsRead
 pub mod PiecesListed
+pub mod SoundParts

@@ -103,13 +103,13 @@ module _ (b : List ℕ) (h : Ehdr) (s : List Shdr) (ys : List Sym) where
 -- ---- what refers to them
 
 module _ (elf : Elf) where
-  abbrev relas : List (Bool × InputFault)
+  abbrev pub relas : List (Bool × InputFault)
   relas = flat_map (rela_section_checks elf) (rela_sections elf)
 
-  abbrev overlaps : List (Bool × InputFault)
+  abbrev pub overlaps : List (Bool × InputFault)
   overlaps = flat_map (λ (row : ℕ × Shdr). overlap_checks elf (is_piece_in elf row.0) row.0) (numbered elf.sections)
 
-  abbrev groups : List (Bool × InputFault)
+  abbrev pub groups : List (Bool × InputFault)
   groups = group_checks_after elf [] (group_sections elf)
 
   pub relas_stop : (f : InputFault) → first_fault relas ≡ Some f → first_fault (reference_half elf) ≡ Some f
@@ -131,7 +131,7 @@ two_halves : (front a b c : List (Bool × InputFault)) → front ++ a ++ b ++ c 
 two_halves front a b c =
     append_assoc (front ++ a) b c ∙ append_assoc front a (b ++ c) ∙ ap (λ rest. front ++ rest) (sym (append_assoc a b c))
 
-halves : (elf : Elf) → object_checks elf ≡ table_half elf ++ reference_half elf
+pub halves : (elf : Elf) → object_checks elf ≡ table_half elf ++ reference_half elf
 unfolding object_checks table_half reference_half
 halves elf = two_halves (table_checks elf ++ flat_map (section_checks elf) (numbered elf.sections) ++ symbol_table_checks elf (symbol_table elf) ++ symbol_checks elf (symbol_table elf)) (relas elf) (overlaps elf) (groups elf)
 

@@ -1,5 +1,5 @@
 -- What an object holds of a piece.
-use Rattle.std.specs.Prelude.{◌≡◌, refl, Bool, true, false, ℕ, zero, suc, ◌<◌, ◌≤◌, ◌==◌, IsTrue, All, List, [], ◌++◌, drop, take, flat_map, if◌then◌else◌, is_some, length, option_to_list, slice_get, Some, None, Option, ◌⊎◌}
+use Rattle.std.specs.Prelude.{◌≡◌, refl, Bool, true, false, ℕ, zero, suc, ◌<◌, ◌==◌, IsTrue, All, List, [], flat_map, if◌then◌else◌, is_some, length, option_to_list, slice_get, Option}
 use mathlib.Core.Logic.{⊎_elim}
 use Rattle.std.proofs.Common.{ap, get_or, subst, sym, ◌∙◌}
 use Rattle.std.proofs.lemmas.List.{append-nil}
@@ -7,7 +7,7 @@ use Rattle.std.proofs.lemmas.Option.{slice_get-get_or, slice_get_cases}
 use Rattle.lk_elf.specs.Numbers.{sht_nobits}
 use Rattle.lk_elf.specs.declared.section_header.Shdr.{Shdr}
 use Rattle.lk_model.specs.Checks.{is_some_with}
-use Rattle.lk_model.specs.Elf.{bytes_under, elf_of, elf_under, elf_with, section_at}
+use Rattle.lk_model.specs.Elf.{bytes_under, elf_of, elf_under, elf_with}
 use Rattle.lk_model.specs.Objects.{is_piece_in, key_in, piece_bytes_in, summary_in}
 use Rattle.lk_model.specs.Views.{Elf}
 use Rattle.lk_model.specs.declared.summaries.InputSummary.{InputSummary}

@@ -1,7 +1,7 @@
 -- Marks on the targets of relocations tell which sections have relocations.
-use Rattle.std.specs.Prelude.{◌≡◌, refl, ℕ, zero, suc, ◌+◌, ◌*◌, ◌/◌, ◌<◌, ◌≤◌, ◌==◌, Bool, true, false, cond, not, ◌||◌, ◌&&◌, nat_eq, List, [], ◌∷◌, ◌++◌, drop, filter, flat_map, fold, length, map, replicate, slice_get, Option, Some, None, ◌≢◌}
+use Rattle.std.specs.Prelude.{◌≡◌, refl, ℕ, zero, suc, ◌+◌, ◌*◌, ◌<◌, ◌≤◌, ◌==◌, Bool, true, false, cond, not, ◌||◌, ◌&&◌, nat_eq, List, [], ◌∷◌, ◌++◌, drop, filter, flat_map, length, replicate, slice_get, Some, ◌≢◌}
 use mathlib.Core.Logic.{⊎_elim}
-use Rattle.std.specs.List.{enumerate_from, list_any, range_with_len}
+use Rattle.std.specs.List.{enumerate_from, list_any}
 use Rattle.std.proofs.Common.{ap, ◌∙◌, sym, arith, add-one, drop-cons, get_or, get_or-set_other, get_or-set_same, length-set}
 use Rattle.std.proofs.lemmas.Bool.Decides.{eqb_tells}
 use Rattle.std.proofs.lemmas.List.{drop_all}
@@ -11,8 +11,7 @@ use Rattle.lk_elf.specs.Numbers.{sht_rela, rela_size}
 use Rattle.lk_elf.specs.Records.{rela_at}
 use Rattle.lk_elf.specs.declared.section_header.Shdr.{Shdr}
 use Rattle.lk_elf.specs.declared.relocation.Rela.{Rela}
-use Rattle.lk_model.specs.Elf.{lies_in, numbered}
-use Rattle.lk_model.specs.Objects.{rela_count, relas_under, rela_sections_of, relocations_in}
+use Rattle.lk_model.specs.Objects.{rela_count, relas_under, relocations_in}
 use Rattle.lk_model.specs.Views.{Elf}
 use Rattle.lk_obj_parts.specs.GroupMarks.{is_marked, with_mark}
 use Rattle.lk_obj_read.specs.RelocatedSections.{entries_in, has_entries, is_relocated, marked_after, marked_by}

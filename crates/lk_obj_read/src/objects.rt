@@ -1,10 +1,12 @@
 //! An object as it was read: its bytes, and beside them what is asked for more than once. Contracts see it
 //! as its bytes; each answer is the definition's value of the file that they are.
 
-ghost use Rattle.std.specs.Prelude.{◌≡◌, All, IsTrue, None};
-ghost use Rattle.lk_model.specs.Elf.{elf_of};
+ghost use Rattle.std.specs.Prelude.{◌≡◌, ◌+◌, ◌<◌, ◌≤◌, All, IfSome, IsTrue, None, length};
+ghost use Rattle.lk_model.specs.Elf.{elf_of, section_at};
 ghost use Rattle.lk_model.specs.ObjectChecks.{object_fault};
-ghost use Rattle.lk_model.specs.Objects.{is_piece_in, local_in, piece_bytes_in, relocations_in, summary_in};
+ghost use Rattle.lk_model.specs.Objects.{code_of_rela, is_piece_in, local_in, piece_bytes_in, relocations_in, summary_in, symbol_of_rela};
+ghost use Rattle.lk_model.specs.RelocationTypes.{width_of};
+ghost use Rattle.lk_obj_parts.specs.TargetRows.{room_of};
 
 use crate::local_symbols::local_at;
 use crate::pieces::held_bytes;
@@ -52,20 +54,25 @@ impl Object {
         &self.summary
     }
 
-    /// The bytes of a piece in the file; none of a NOBITS section. Takes no memory.
-    #[tactic(auto, using(crate::proofs::ObjectsHeld::is_there, crate::proofs::ObjectsHeld::held_told))]
+    /// The bytes of a piece in the file, all that its header says; none of a NOBITS section. Takes no
+    /// memory.
+    #[tactic(auto, using(crate::proofs::ObjectsHeld::is_there, crate::proofs::ObjectsHeld::held_told, crate::proofs::SoundParts::bytes_there))]
     pub fn piece_bytes(&self, section: u32) -> &[u8]
         requires { IsTrue (is_piece_in (elf_of self.now) section) }
-        ensures { result.now ≡ piece_bytes_in (elf_of self.now) section }
+        ensures value { result.now ≡ piece_bytes_in (elf_of self.now) section }
+        ensures whole { IfSome (section_at (elf_of self.now) section) (λ header. length result.now ≡ room_of header) }
     {
         held_bytes(self.bytes.as_slice(), &self.sections[section as usize])
     }
 
-    /// The relocations of a piece, by the section that holds them and entry. Takes no memory.
-    #[tactic(auto, using(crate::proofs::ObjectsHeld::is_there))]
+    /// The relocations of a piece, by the section that holds them and entry. Their fields lie in the bytes
+    /// of the piece, and the object has their symbols. Takes no memory.
+    #[tactic(auto, using(crate::proofs::ObjectsHeld::is_there, crate::proofs::SoundParts::fields_there, crate::proofs::SoundParts::symbols_there))]
     pub fn relocations(&self, section: u32) -> &RelaList
         requires { IsTrue (is_piece_in (elf_of self.now) section) }
-        ensures { result.now ≡ relocations_in (elf_of self.now) section }
+        ensures value { result.now ≡ relocations_in (elf_of self.now) section }
+        ensures fields { All (λ rela. rela.r_offset + width_of (code_of_rela rela) ≤ length (piece_bytes_in (elf_of self.now) section)) result.now }
+        ensures symbols { All (λ rela. symbol_of_rela rela < length (elf_of self.now).symbols) result.now }
     {
         &self.relocations[section as usize]
     }
