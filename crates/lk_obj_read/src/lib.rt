@@ -2,15 +2,12 @@
 //! means it, or the first of the named faults with its place.
 //!
 //! `object_fault` is the first fault of a file by all checks in their order, or none: a validating reader.
-//! Its contract cites the definition of that name in lk_model (ObjectChecks); the passes that it goes
-//! through, and what they read, stand in lk_obj_parts. `relocated_sections` tells which sections have
-//! relocations. `read_summary` is what a link keeps of an object: pieces (`pieces_of`), symbols, groups, and
-//! whether it asks for an executable stack (`asks_exec_stack`); it cites `summary_in` of lk_model (Objects).
 //! `read_object` tells the same fault, or gives the object, which contracts see as its bytes: its summary,
-//! the bytes and the relocations of its pieces, its LOCAL symbols. Each contract cites the definition of
-//! that name in lk_model (ObjectChecks, Objects); the passes that checks go through stand in lk_obj_parts.
-//! `read_summary` reads the summary of any file, and of its parts `pieces_of`, `asks_exec_stack` and
-//! `relocated_sections` are there alone.
+//! the bytes and the relocations of its pieces, its LOCAL symbols. `read_summary` is what a link keeps of an
+//! object: pieces (`pieces_of`), symbols, groups, and whether it asks for an executable stack
+//! (`asks_exec_stack`); `relocated_sections` tells which sections have relocations. Each contract cites the
+//! definition of that name in lk_model (ObjectChecks, Objects); the passes that checks go through, and what
+//! they read, stand in lk_obj_parts.
 //!
 //! Callers rely on one law: what is answered is the definition's value, on any bytes. Want of memory alone
 //! is tied to no cause.
