@@ -1,0 +1,5 @@
+pub mod WordTables
+pub mod PhraseFaults
+pub mod RunPaths
+pub mod LastValues
+pub mod GrammarTold
