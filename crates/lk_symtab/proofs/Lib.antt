@@ -1,0 +1,4 @@
+pub mod BestsKept
+pub mod Entries
+pub mod SymbolsFound
+pub mod RowsStay

@@ -1,0 +1,4 @@
+pub mod Bests
+pub mod NameRows
+pub mod RowEntries
+pub mod SymbolLaws
