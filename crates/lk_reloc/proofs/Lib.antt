@@ -1,0 +1,6 @@
+pub mod Addends
+pub mod TypesFound
+pub mod RulesFound
+pub mod LowBytes
+pub mod ShortFields
+pub mod FieldsRead
