@@ -1,0 +1,14 @@
+pub mod TwoTests
+pub mod HoleBytes
+pub mod Steps
+pub mod Splitting
+pub mod Fitting
+pub mod Searching
+pub mod FitsFound
+pub mod Rest
+pub mod Joining
+pub mod Halving
+pub mod FreeAgain
+pub mod SameBytes
+pub mod Apart
+pub mod ModelLaws
