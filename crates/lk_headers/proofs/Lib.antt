@@ -1,0 +1,9 @@
+pub mod FieldBytes
+pub mod Rows
+pub mod Counted
+pub mod PutInTurn
+pub mod TailEnds
+pub mod FrontLengths
+pub mod NameTables
+pub mod SectionsPut
+pub mod ModelRows

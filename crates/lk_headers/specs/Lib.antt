@@ -1,0 +1,11 @@
+pub mod Ends
+pub mod LowBits
+pub mod Shown
+pub mod ProgramHeaders
+pub mod TailRows
+pub mod Front
+pub mod Counts
+pub mod NameTables
+pub mod SectionKinds
+pub mod SectionTable
+pub mod HeaderLaws

@@ -1,0 +1,89 @@
+//! What stands before the seal of an image.
+
+ghost use Rattle.std.specs.Prelude.{◌≡◌, ◌≤◌, ◌++◌, Bool, length, IfOk, OnOk};
+ghost use Rattle.lk_model.specs.Segments.{program_headers};
+ghost use Rattle.lk_headers.specs.Front.{front_bytes, FrontGives, most_headers, up_to_seal};
+
+use crate::appending::{put_file_header, put_zeros_to};
+use crate::counting::header_count;
+use crate::file_header::file_header;
+use crate::program_headers::put_program_headers;
+use lk_model::layouts::{LayoutFault, Placement, SectionRowList};
+use lk_report::{Bytes, LimitFault, LimitKind, NoMemory};
+use std::alloc::Global;
+
+/// The most program headers of an image: as many have room before the seal.
+const MOST_HEADERS: u64 = 64;
+/// Where the seal stands.
+const SEAL_OFFSET: usize = 4088;
+
+/// Puts the file header and the program headers at the end.
+#[tactic(auto, using(crate::proofs::FrontLengths::front_put), unfolding(crate::specs::Front::front_bytes))]
+fn put_front(
+    out: &mut Vec<u8>,
+    placement: &Placement,
+    tail: &SectionRowList,
+    entry: u64,
+    exec_stack: bool,
+    count: u16,
+) -> Result<(), NoMemory>
+    requires { (exec_stack : Bool) → count ≡ length (program_headers placement.now exec_stack) }
+    ensures { OnOk result (out.new.items ≡ out.old.items ++ front_bytes placement.now tail.now entry exec_stack) }
+{
+    put_file_header(out, &file_header(placement, tail, entry, count))?;
+    put_program_headers(out, placement, exec_stack, count)
+}
+
+/// The headers with zeros after them, for so many program headers.
+#[tactic(auto, using(crate::proofs::FrontLengths::front_fits, crate::proofs::FrontLengths::front_padded))]
+fn front_bytes(
+    alloc: Global,
+    placement: &Placement,
+    tail: &SectionRowList,
+    entry: u64,
+    exec_stack: bool,
+    count: u16,
+) -> Result<Bytes, NoMemory>
+    requires many { (exec_stack : Bool) → count ≡ length (program_headers placement.now exec_stack) }
+    requires few { count ≤ most_headers }
+    ensures { IfOk result (λ bytes. bytes ≡ up_to_seal (front_bytes placement.now tail.now entry exec_stack)) }
+{
+    let Ok(mut out) = Vec::with_capacity(alloc, SEAL_OFFSET) else {
+        return Err(NoMemory);
+    };
+    put_front(&mut out, placement, tail, entry, exec_stack, count)?;
+    put_zeros_to(&mut out, SEAL_OFFSET)?;
+    Ok(Bytes::from_vec(out))
+}
+
+/// What stands before the seal of an image, its first 4,088 bytes (gABI "ELF Header", "Program Header"; the
+/// seal is this project's own): the file header, the program headers, and zeros.
+///
+/// `tail` has the parts of the tail in their order, each with its name, its place in the file and its
+/// size in bytes; `entry` is the address where the program begins; `exec_stack` says whether the stack
+/// may be executed. A number that is greater than its field is written by its low bytes.
+///
+/// # Errors
+/// `Limit` exactly where the placement asks for more than 64 program headers, with their whole number;
+/// `NoMemory` where memory is wanting.
+pub fn headers(
+    alloc: Global,
+    placement: &Placement,
+    tail: &SectionRowList,
+    entry: u64,
+    exec_stack: bool,
+) -> Result<Bytes, LayoutFault>
+    ensures { FrontGives placement.now tail.now entry exec_stack result }
+{
+    let count = header_count(placement);
+    if count > MOST_HEADERS {
+        return Err(LayoutFault::Limit(LimitFault {
+            which: LimitKind::Headers,
+            number: count,
+        }));
+    }
+    match front_bytes(alloc, placement, tail, entry, exec_stack, count as u16) {
+        Ok(bytes) => Ok(bytes),
+        Err(NoMemory) => Err(LayoutFault::NoMemory),
+    }
+}

@@ -1,0 +1,36 @@
+//! The headers of an image: what stands before the seal, and the section headers that end it.
+//!
+//! A placement comes in, with the rows of the tail's parts (name, place, size), the address of the entry
+//! and whether the stack may be executed. Out come the first 4,088 bytes of the image (`headers`: the file
+//! header, the program headers, zeros), or the limit where the placement asks for more than 64 program
+//! headers; and the bytes of the section headers (`section_headers`).
+//!
+//! The contracts cite `FrontGives` (specs/Front.antt) and `section_table_bytes` (specs/SectionTable.antt),
+//! on any placement and any rows: what no field can hold is written by its low bytes. Callers rely on
+//! `headers_are_the_models`: over the rows of the parts of a tail these are lk_model's `header_bytes` and
+//! `section_headers`. Both are linear in the rows; a name is looked up by hash.
+#![tactic(auto)]
+
+mod appending;
+mod classes;
+mod counting;
+mod file_header;
+mod front;
+mod laws;
+mod links;
+mod loads;
+mod low_bits;
+mod name_table;
+mod program_headers;
+mod section_kinds;
+mod section_rows;
+mod section_table;
+mod segments;
+mod shown;
+#[cfg(test)]
+mod tests;
+mod thread;
+
+pub use front::headers;
+pub use laws::headers_are_the_models;
+pub use section_table::section_headers;
