@@ -1,20 +1,20 @@
 -- The best of a name's symbols is kept: with one more symbol it is that of the longer list, and what is
 -- picked from it is the winner of the name.
-use Rattle.std.proofs.Common.{◌≡◌, refl, sym, ap, ◌∙◌, ℕ, Bool, true, false, cond, max, ◌==◌, List, [], ◌∷◌, ◌++◌, filter, fold, Option, None, Some}
-use Rattle.std.specs.List.{find}
+use Rattle.std.proofs.Common.{◌≡◌, refl, sym, ap, ◌∙◌, ℕ, Bool, true, false, ◌||◌, cond, max, ◌==◌, List, [], ◌∷◌, ◌++◌, filter, fold, Option, None, Some}
+use Rattle.std.specs.List.{find, list_any}
 use Rattle.std.specs.Option.{option_map, option_or}
 use Rattle.std.proofs.lemmas.List.{append-nil}
 use Rattle.std.proofs.lemmas.List.Elements.{filter-append}
-use Rattle.std.proofs.lemmas.List.Folds.{find-append}
+use Rattle.std.proofs.lemmas.List.Folds.{find-append, list_any-append}
 use Rattle.std.proofs.lemmas.List.Sums.{fold-append}
 use Rattle.lk_elf.specs.Numbers.{stv_default}
 use Rattle.lk_model.specs.declared.summaries.Contribution.{Contribution}
 use Rattle.lk_model.specs.declared.summaries.Contributions.{Contributions}
 use Rattle.lk_model.specs.declared.summaries.Winner.TheVariants as winner
-use Rattle.lk_model.specs.Symbols.{is_of_object, is_strong_definition, is_weak_definition, is_object_common, is_shared_definition}
+use Rattle.lk_model.specs.Symbols.{is_of_object, is_strong_definition, is_weak_definition, is_object_common, is_object_reference, is_shared_definition}
 use Rattle.lk_model.specs.Winners.{first_offered, made_where, merged, stricter, visibility_of, winner_of}
 use Rattle.lk_symtab.specs.declared.bests.Best.{Best}
-use Rattle.lk_symtab.specs.Bests.{best_of, best_with, block_and, block_with, common_of, first_place, import_at, merged_block, none, picked, place_of, place_with, strong_at, visibility_with, weak_at, with_last}
+use Rattle.lk_symtab.specs.Bests.{best_of, best_with, block_and, block_with, common_of, first_place, import_at, is_global_reference, merged_block, none, picked, place_of, place_with, strong_at, visibility_with, weak_at, with_last}
 
 -- the first place with one more symbol
 place-or : (found : Option Contribution) (b : Bool) (c : Contribution) → option_map place_of (option_or found (cond b (Some c) None)) ≡ place_with (option_map place_of found) b c
@@ -50,6 +50,14 @@ visibility-push : (b : Bool) (symbols : List Contribution) (c : Contribution) �
 visibility-push true symbols c = fold-append (λ v (d : Contribution). stricter v d.global.visibility) stv_default symbols (c ∷ [])
 visibility-push false symbols c = refl
 
+-- whether a symbol passes a test, with one more symbol
+or_false : (b : Bool) → (b || false) ≡ b
+or_false true = refl
+or_false false = refl
+
+flag-push : (test : Contribution → Bool) (list : List Contribution) (c : Contribution) → list_any test (list ++ c ∷ []) ≡ (list_any test list || test c)
+flag-push test list c = list_any-append test list (c ∷ []) ∙ ap (λ b. list_any test list || b) (or_false (test c))
+
 -- the best with one more symbol
 pub best_pushed : (cs : Contributions) (c : Contribution) → best_of (with_last cs c) ≡ best_with (best_of cs) c
 unfolding best_of best_with
@@ -59,7 +67,9 @@ best_pushed cs c =
     let import = first_place-push is_shared_definition cs.list c in
     let common = ap merged_block (filter-push is_object_common cs.list c) ∙ block-push (is_object_common c) (filter is_object_common cs.list) c in
     let visibility = ap (fold (λ v (d : Contribution). stricter v d.global.visibility) stv_default) (filter-push is_of_object cs.list c) ∙ visibility-push (is_of_object c) (filter is_of_object cs.list) c in
-    λ i. record { strong = strong i; common = common i; weak = weak i; import = import i; visibility = visibility i }
+    let referred = flag-push is_object_reference cs.list c in
+    let needed = flag-push is_global_reference cs.list c in
+    λ i. record { strong = strong i; common = common i; weak = weak i; import = import i; visibility = visibility i; is_referred = referred i; is_needed = needed i }
 
 -- the best of one symbol
 pub best_of_first : (name : List ℕ) (list : List Contribution) (c : Contribution) (nothing best : Best) → nothing ≡ none → best ≡ best_with nothing c → list ≡ c ∷ [] → best ≡ best_of (record { name = name; list = list })

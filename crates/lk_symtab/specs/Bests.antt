@@ -1,13 +1,14 @@
 -- The best of a name's symbols, kind by kind: what its winner is picked from (gABI "Symbol Table",
 -- "Common Symbols").
-use Rattle.std.specs.Prelude.{ℕ, Bool, cond, ◌==◌, max, List, [], ◌∷◌, ◌++◌, filter, find, fold, Option, Some, None, option_map}
+use Rattle.std.specs.Prelude.{ℕ, Bool, false, ◌&&◌, ◌||◌, cond, ◌==◌, max, List, [], ◌∷◌, ◌++◌, filter, find, fold, Option, Some, None, option_map}
+use Rattle.std.specs.List.{list_any}
 use Rattle.std.specs.Option.{option_or}
 use Rattle.lk_model.specs.declared.summaries.Contribution.{Contribution}
 use Rattle.lk_model.specs.declared.summaries.Contributions.{Contributions}
 use Rattle.lk_model.specs.declared.summaries.Winner.{Winner}
 use Rattle.lk_model.specs.declared.summaries.Winner.TheVariants as winner
-use Rattle.lk_elf.specs.Numbers.{stv_default}
-use Rattle.lk_model.specs.Symbols.{is_of_object, is_strong_definition, is_weak_definition, is_object_common, is_shared_definition}
+use Rattle.lk_elf.specs.Numbers.{stb_global, stv_default}
+use Rattle.lk_model.specs.Symbols.{is_of_object, is_strong_definition, is_weak_definition, is_object_common, is_object_reference, is_shared_definition}
 use Rattle.lk_model.specs.Winners.{first_offered, made_where, stricter, visibility_of}
 use Rattle.lk_symtab.specs.declared.bests.Best.{Best}
 use Rattle.lk_symtab.specs.declared.bests.Block.{Block}
@@ -26,9 +27,13 @@ abbrev pub merged_block : List Contribution → Option Block
 merged_block [] = None
 merged_block (c ∷ cs) = Some (record { size = fold (λ n (d : Contribution). max n d.global.size) c.global.size cs; align = fold (λ n (d : Contribution). max n d.global.value) c.global.value cs })
 
+-- whether a symbol is a reference of an object that wants a definition: an undefined GLOBAL symbol
+abbrev pub is_global_reference : Contribution → Bool
+is_global_reference c = is_object_reference c && (c.global.binding == stb_global)
+
 -- the best of a name's symbols
 unfoldable pub best_of : Contributions → Best
-best_of cs = record { strong = first_place is_strong_definition cs.list; common = merged_block (filter is_object_common cs.list); weak = first_place is_weak_definition cs.list; import = first_place is_shared_definition cs.list; visibility = visibility_of cs }
+best_of cs = record { strong = first_place is_strong_definition cs.list; common = merged_block (filter is_object_common cs.list); weak = first_place is_weak_definition cs.list; import = first_place is_shared_definition cs.list; visibility = visibility_of cs; is_referred = list_any is_object_reference cs.list; is_needed = list_any is_global_reference cs.list }
 
 -- the symbols of a name with one more at the end
 abbrev pub with_last : Contributions → Contribution → Contributions
@@ -53,11 +58,11 @@ visibility_with visibility is_more c = cond is_more (stricter visibility c.globa
 
 -- the best of no symbols
 abbrev pub none : Best
-none = record { strong = None; common = None; weak = None; import = None; visibility = stv_default }
+none = record { strong = None; common = None; weak = None; import = None; visibility = stv_default; is_referred = false; is_needed = false }
 
 -- the best with one more symbol after the others
 unfoldable pub best_with : Best → Contribution → Best
-best_with best c = record { strong = place_with best.strong (is_strong_definition c) c; common = block_with best.common (is_object_common c) c; weak = place_with best.weak (is_weak_definition c) c; import = place_with best.import (is_shared_definition c) c; visibility = visibility_with best.visibility (is_of_object c) c }
+best_with best c = record { strong = place_with best.strong (is_strong_definition c) c; common = block_with best.common (is_object_common c) c; weak = place_with best.weak (is_weak_definition c) c; import = place_with best.import (is_shared_definition c) c; visibility = visibility_with best.visibility (is_of_object c) c; is_referred = best.is_referred || is_object_reference c; is_needed = best.is_needed || is_global_reference c }
 
 -- the definition at a place or of a block, as a winner
 abbrev pub strong_at : Place → Winner

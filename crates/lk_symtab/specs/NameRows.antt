@@ -1,14 +1,16 @@
 -- This project's own: names in the order of their numbers, each with its symbols and whether the linker
 -- makes it.
 use Rattle.std.specs.Prelude.{◌≡◌, ℕ, zero, suc, Bool, true, false, cond, List, [], ◌∷◌, length, map, Option, unwrap_or, Result, Ok, Err}
+use Rattle.std.specs.List.{list_any}
 use Rattle.std.specs.Str.{bytes_eq}
 use Rattle.lk_report.specs.declared.memory.NoMemory.{NoMemory}
 use Rattle.lk_model.specs.declared.summaries.Contribution.{Contribution}
 use Rattle.lk_model.specs.declared.summaries.Contributions.{Contributions}
 use Rattle.lk_model.specs.declared.summaries.Winner.{Winner}
 use Rattle.lk_model.specs.Finding.{number_among}
+use Rattle.lk_model.specs.Symbols.{is_object_reference}
 use Rattle.lk_model.specs.Winners.{visibility_of, winner_of}
-use Rattle.lk_symtab.specs.Bests.{with_last}
+use Rattle.lk_symtab.specs.Bests.{is_global_reference, with_last}
 
 -- what is known of a name: it with its symbols, and whether the linker makes it
 pub record NameRow : Type 0 where
@@ -79,3 +81,11 @@ row_winner row = winner_of row.contributions row.is_made (visibility_of row.cont
 -- the visibility of the name of a row
 abbrev pub row_visibility : NameRow → ℕ
 row_visibility row = visibility_of row.contributions
+
+-- whether an object refers to the name of a row
+abbrev pub row_referred : NameRow → Bool
+row_referred row = list_any is_object_reference row.contributions.list
+
+-- whether an object has an undefined GLOBAL symbol of the name of a row
+abbrev pub row_needed : NameRow → Bool
+row_needed row = list_any is_global_reference row.contributions.list

@@ -7,7 +7,8 @@ ghost use Rattle.lk_symtab.specs.Bests.{best_with, block_and, block_with, picked
 ghost use Rattle.lk_symtab.specs.Bests as bests;
 
 use crate::symbol_kinds::{
-    is_object_common, is_of_object, is_shared_definition, is_strong_definition, is_weak_definition,
+    is_global_reference, is_object_common, is_object_reference, is_of_object, is_shared_definition,
+    is_strong_definition, is_weak_definition,
 };
 use lk_elf::numbers::STV_DEFAULT;
 use lk_model::summaries::{Contribution, Winner};
@@ -41,6 +42,10 @@ pub struct Best {
     pub import: Option<Place>,
     /// The most constraining visibility of the symbols in objects.
     pub visibility: u32,
+    /// Whether an object refers to the name.
+    pub is_referred: bool,
+    /// Whether an object has an undefined GLOBAL symbol of the name.
+    pub is_needed: bool,
 }
 
 impl Best {
@@ -54,6 +59,8 @@ impl Best {
             weak: None,
             import: None,
             visibility: STV_DEFAULT as u32,
+            is_referred: false,
+            is_needed: false,
         }
     }
 
@@ -68,6 +75,8 @@ impl Best {
             weak: place_with(self.weak, is_weak_definition(symbol), symbol),
             import: place_with(self.import, is_shared_definition(symbol), symbol),
             visibility: visibility_with(self.visibility, is_of_object(symbol), symbol),
+            is_referred: self.is_referred || is_object_reference(symbol),
+            is_needed: self.is_needed || is_global_reference(symbol),
         }
     }
 

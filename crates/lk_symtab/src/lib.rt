@@ -18,4 +18,5 @@ mod symbol_table;
 mod tests;
 
 pub use laws::symbols_are_the_models;
+pub use symbol_kinds::{is_of_object, is_strong_definition};
 pub use symbol_table::SymTab;

@@ -1,7 +1,7 @@
 //! What the table knows of a name: its symbols, whether the linker makes it, and the best of its symbols.
 
 ghost use Rattle.std.specs.Prelude.{◌≡◌, [], ◌∷◌, IfOk, OnErr, OnOk};
-ghost use Rattle.lk_symtab.specs.NameRows.{made_row, new_row, row_visibility, row_winner, row_with};
+ghost use Rattle.lk_symtab.specs.NameRows.{made_row, new_row, row_needed, row_referred, row_visibility, row_winner, row_with};
 
 use crate::bests::Best;
 use lk_model::summaries::{Contribution, ContributionList, Contributions, Winner};
@@ -93,5 +93,21 @@ impl Row {
         ensures { result ≡ row_visibility self.now }
     {
         self.best.visibility
+    }
+
+    /// Whether an object refers to the name.
+    #[tactic(auto, unfolding(crate::specs::Bests::best_of))]
+    pub fn is_referred(&self) -> bool
+        ensures { result ≡ row_referred self.now }
+    {
+        self.best.is_referred
+    }
+
+    /// Whether an object has an undefined GLOBAL symbol of the name.
+    #[tactic(auto, unfolding(crate::specs::Bests::best_of))]
+    pub fn is_needed(&self) -> bool
+        ensures { result ≡ row_needed self.now }
+    {
+        self.best.is_needed
     }
 }

@@ -1,9 +1,10 @@
 //! What a symbol of an input is to its name: a definition of some strength, or none.
 
 ghost use Rattle.std.specs.Prelude.{◌≡◌};
-ghost use Rattle.lk_model.specs.Symbols.{is_common, is_object_common, is_of_object, is_placed, is_shared_definition, is_strong_definition, is_undefined, is_weak, is_weak_definition};
+ghost use Rattle.lk_model.specs.Symbols.{is_common, is_object_common, is_object_reference, is_of_object, is_placed, is_shared_definition, is_strong_definition, is_undefined, is_weak, is_weak_definition};
+ghost use Rattle.lk_symtab.specs.Bests.{is_global_reference};
 
-use lk_elf::numbers::STB_WEAK;
+use lk_elf::numbers::{STB_GLOBAL, STB_WEAK};
 use lk_model::summaries::{Contribution, Home, Kind};
 
 /// Whether a symbol is one of an object.
@@ -79,4 +80,18 @@ pub fn is_shared_definition(symbol: &Contribution) -> bool
     ensures { result ≡ is_shared_definition symbol.now }
 {
     !is_of_object(symbol) && !is_undefined(symbol)
+}
+
+/// Whether a symbol is a reference of an object.
+pub fn is_object_reference(symbol: &Contribution) -> bool
+    ensures { result ≡ is_object_reference symbol.now }
+{
+    is_of_object(symbol) && is_undefined(symbol)
+}
+
+/// Whether a symbol is a reference of an object that wants a definition: an undefined GLOBAL symbol.
+pub fn is_global_reference(symbol: &Contribution) -> bool
+    ensures { result ≡ is_global_reference symbol.now }
+{
+    is_object_reference(symbol) && symbol.global.binding == STB_GLOBAL as u32
 }

@@ -1,16 +1,16 @@
 //! The table of the names: a map from each name to its row, looked up by hash. A name's number is the place
 //! of its row, and rows are never taken out, so a number stays.
 
-ghost use Rattle.std.specs.Prelude.{◌≡◌, ◌-◌, ◌^◌, ◌<◌, [], length, slice_get, None, Some};
+ghost use Rattle.std.specs.Prelude.{◌≡◌, ◌-◌, ◌^◌, ◌<◌, [], length, slice_get, None, Some, IfOk, IfSome};
 ghost use Rattle.std.specs.List.{IsDistinct};
 ghost use Rattle.std.specs.Option.{option_map};
 ghost use Rattle.std.specs.Str.{bytes_eq};
 ghost use Rattle.lk_model.specs.declared.summaries.Contributions.{Contributions};
-ghost use Rattle.lk_symtab.specs.NameRows.{row_names, number_of, row_visibility, row_winner, symbols_in, with_made, with_row, AddGives, AddsAt};
+ghost use Rattle.lk_symtab.specs.NameRows.{row_names, number_of, row_needed, row_referred, row_visibility, row_winner, symbols_in, with_made, with_row, AddGives, AddsAt};
 
 use crate::rows::Row;
 use indexmap::IndexMap;
-use lk_model::summaries::{Contribution, Contributions, Global as Symbol, Kind, Winner};
+use lk_model::summaries::{Contribution, Contributions, Global as Symbol, Home, Kind, Winner};
 use lk_report::{Name, NoMemory};
 use std::alloc::Global;
 use std::marker::Model;
@@ -36,6 +36,15 @@ impl Model for SymTab {
     ghost invariant = { λ t. IsTable t.rows.entries };
 }
 
+/// A symbol with another home.
+fn copy_at_home(alloc: Global, global: &Symbol, home: Home) -> Result<Symbol, NoMemory>
+    ensures { IfOk result (λ g. g ≡ record global.now { home = home }) }
+{
+    let mut copied = global.copy(alloc)?;
+    copied.home = home;
+    Ok(copied)
+}
+
 impl SymTab {
     /// No name. What is added later is copied by this allocator.
     pub fn new(alloc: Global) -> Self
@@ -58,7 +67,8 @@ impl SymTab {
     /// The number of a name; none exactly where no symbol was added under it.
     #[tactic(auto, using(crate::proofs::Entries::number_is))]
     pub fn find(&self, name: &Name) -> Option<u32>
-        ensures { result ≡ number_of self.now name.now }
+        ensures number { result ≡ number_of self.now name.now }
+        ensures within { IfSome result (λ number. number < length self.now) }
     {
         match self.rows.get_index_of(name) {
             Some(n) => Some(n as u32),
@@ -71,7 +81,6 @@ impl SymTab {
     ///
     /// # Errors
     /// Want of memory. The table is then unchanged.
-    #[tactic(auto, using(crate::proofs::Entries::number_is))]
     pub fn add(
         &mut self,
         name: &Name,
@@ -82,7 +91,26 @@ impl SymTab {
         requires { length self.old < 2 ^ 32 - 1 }
         ensures { AddGives self.old name.now (record { input = input; kind = kind; global = global.now }) result self.new }
     {
-        let global = global.copy(self.alloc)?;
+        self.add_at_home(name, input, kind, global, global.home)
+    }
+
+    /// Adds a symbol as `add` does, with another home: one in a section that the link drops is a reference.
+    ///
+    /// # Errors
+    /// Want of memory. The table is then unchanged.
+    #[tactic(auto, using(crate::proofs::Entries::number_is))]
+    pub fn add_at_home(
+        &mut self,
+        name: &Name,
+        input: u32,
+        kind: Kind,
+        global: &Symbol,
+        home: Home,
+    ) -> Result<u32, NoMemory>
+        requires { length self.old < 2 ^ 32 - 1 }
+        ensures { AddGives self.old name.now (record { input = input; kind = kind; global = record global.now { home = home } }) result self.new }
+    {
+        let global = copy_at_home(self.alloc, global, home)?;
         let symbol = Contribution {
             input,
             kind,
@@ -140,6 +168,22 @@ impl SymTab {
         ensures { option_map row_visibility (slice_get self.now number) ≡ Some result }
     {
         self.row(number).visibility()
+    }
+
+    /// Whether an object refers to the name with a number.
+    pub fn is_referred(&self, number: u32) -> bool
+        requires { number < length self.now }
+        ensures { option_map row_referred (slice_get self.now number) ≡ Some result }
+    {
+        self.row(number).is_referred()
+    }
+
+    /// Whether an object has an undefined GLOBAL symbol of the name with a number.
+    pub fn is_needed(&self, number: u32) -> bool
+        requires { number < length self.now }
+        ensures { option_map row_needed (slice_get self.now number) ≡ Some result }
+    {
+        self.row(number).is_needed()
     }
 
     /// Says that the linker makes the name with a number.
