@@ -1,7 +1,7 @@
 //! The table of the groups that are kept: a map from each signature that was claimed to the input that
 //! claimed it first, looked up by hash. A signature is copied where it is new, and never again.
 
-ghost use Rattle.std.specs.Prelude.{◌≡◌, []};
+ghost use Rattle.std.specs.Prelude.{◌≡◌, [], length, take};
 ghost use Rattle.lk_comdat.specs.Claims.{holder_of, ClaimGives};
 
 use crate::claiming::Claim;
@@ -56,6 +56,20 @@ impl Groups {
             return Err(NoMemory);
         };
         Ok(Claim::First)
+    }
+
+    /// How many signatures are claimed.
+    pub fn len(&self) -> usize
+        ensures { result ≡ length self.now }
+    {
+        self.holders.len()
+    }
+
+    /// Forgets all claims after the first ones, as many as the number says.
+    pub fn forget_after(&mut self, count: usize)
+        ensures { self.new ≡ take count self.old }
+    {
+        self.holders.truncate(count);
     }
 
     /// The input that claimed a signature first.
