@@ -10,6 +10,7 @@ ghost use Rattle.lk_freelist.specs.FreeBytes.{end_of};
 use crate::filling::fill;
 use crate::free_list::FreeList;
 use lk_model::layouts::{FillKind, Hole, HoleList};
+use lk_report::NoMemory;
 use std::process::Abort;
 use std::test::Fail;
 
@@ -182,5 +183,42 @@ fn places_near_the_last_number(rt: HostRuntime) -> Result<(), Fail> {
     );
     let none = FreeList::new(rt.alloc(), 1, 0)?;
     assert!(rt; none.holes().is_empty());
+    Ok(())
+}
+
+/// Frees 8 bytes of every 16, so many times, of a room without a free byte.
+fn free_many(rt: &impl Abort, list: &mut FreeList, count: u64) -> Result<(), NoMemory>
+    requires { count ≤ 10000 }
+{
+    for i in 0..count {
+        list.reserve(1)?;
+        give_back(rt, list, 16 * i, 8);
+    }
+    Ok(())
+}
+
+/// Places so many pieces of 16 bytes, which stand one behind another from a place on.
+fn place_many(rt: &impl Abort, list: &mut FreeList, count: u64, from: u64) -> Result<(), NoMemory>
+    requires few { count ≤ 10000 }
+    requires near { from ≤ 160000 }
+{
+    for i in 0..count {
+        list.reserve(1)?;
+        assert_eq!(rt; list.place(16, 1), Some(from + 16 * i));
+    }
+    Ok(())
+}
+
+#[test]
+fn the_last_of_ten_thousand_holes_takes_ten_thousand_pieces(rt: HostRuntime) -> Result<(), Fail> {
+    let mut list = FreeList::new(rt.alloc(), 1, 320_000)?;
+    list.reserve(1)?;
+    assert_eq!(rt; list.place(320_000, 1), Some(0));
+    free_many(&rt, &mut list, 9_999)?;
+    list.reserve(1)?;
+    give_back(&rt, &mut list, 160_000, 160_000);
+    assert_eq!(rt; list.holes().len(), 10_000);
+    place_many(&rt, &mut list, 10_000, 160_000)?;
+    assert_eq!(rt; list.holes().len(), 9_999);
     Ok(())
 }
