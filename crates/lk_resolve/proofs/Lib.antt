@@ -1,0 +1,12 @@
+pub mod ClaimSteps
+pub mod ListSets
+pub mod SectionsLeft
+pub mod StatesGoOn
+pub mod WantedNames
+pub mod SearchesGoOn
+pub mod Passes
+pub mod InputsAdded
+pub mod ResolverSteps
+pub mod RowsMade
+pub mod FaultsOfRows
+pub mod SettledFound
