@@ -1,0 +1,5 @@
+pub mod DistinctLists
+pub mod SlotsOnce
+pub mod RowKeysDistinct
+pub mod RowKeysKnown
+pub mod AlignmentsKept

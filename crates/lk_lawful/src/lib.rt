@@ -1,0 +1,2 @@
+//! Laws of placements: where a link made anew puts everything is a placement that a link may have.
+#![tactic(auto)]
