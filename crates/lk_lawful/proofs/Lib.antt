@@ -3,3 +3,10 @@ pub mod SlotsOnce
 pub mod RowKeysDistinct
 pub mod RowKeysKnown
 pub mod AlignmentsKept
+pub mod SoundInputsPowers
+pub mod SoundInputsChecks
+pub mod SoundInputsPieces
+pub mod SoundInputsSymbols
+pub mod SoundInputsAdded
+pub mod SoundInputsWinners
+pub mod SoundInputsKept

@@ -1,1 +1,2 @@
 pub mod SoundPieces
+pub mod SoundInputs
