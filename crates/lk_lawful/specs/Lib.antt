@@ -1,2 +1,3 @@
 pub mod SoundPieces
 pub mod SoundInputs
+pub mod LawfulPlaces
