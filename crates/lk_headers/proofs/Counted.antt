@@ -1,6 +1,6 @@
 -- The program headers are as many as their parts ask for.
 use Rattle.std.proofs.Common.{◌≡◌, ℕ, ◌+◌, ◌-◌, Bool, true, List, [], ◌∷◌, ◌++◌, Option, None, Some, is_some, refl, sym, ap, ◌∙◌, arith, length, length-append, filter, suc}
-use Rattle.std.specs.Prelude.{nat_lt, count_by, option_map}
+use Rattle.std.specs.Prelude.{nat_lt, count_by}
 use Rattle.std.proofs.lemmas.List.Sums.{length-filter}
 use Rattle.std.proofs.lemmas.List.{length-map}
 use Rattle.std.proofs.lemmas.Bool.{lt-ltb}
@@ -104,10 +104,3 @@ counted place exec_stack =
     let i = table_long interps (length rest) in
     let j : one_if (nat_lt 0 (length interps)) ≡ one_if (nat_lt 0 (shown_in shown.Interpreter place)) = ap (λ n. one_if (nat_lt 0 n)) h in
     omega (arith, a, b, d, e, f, g, h, i, j)
-
--- a segment has a header exactly where it is there
-pub there : {A B C : Type 0} (f : A → C) (g : B → C) (o : Option A) (p : Option B) → option_map f o ≡ option_map g p → is_some o ≡ is_some p
-there f g None None e = refl
-there f g None (Some q) e = absurd (cc)
-there f g (Some a) None e = absurd (cc)
-there f g (Some a) (Some q) e = refl

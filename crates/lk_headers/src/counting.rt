@@ -7,7 +7,7 @@ ghost use Rattle.lk_headers.specs.Counts.{count_over, one_if, shown_in};
 use crate::loads::has_rows;
 use crate::segments::Loaded;
 use crate::shown::{Shown, shown_count};
-use crate::thread::thread_local_header;
+use crate::thread_block::thread_segment;
 use lk_model::layouts::Placement;
 
 /// One for what is there.
@@ -18,11 +18,10 @@ fn one_if(there: bool) -> u64
 }
 
 /// Whether there is a thread-local segment.
-#[tactic(auto, using(crate::proofs::Counted::there))]
 fn has_thread_segment(place: &Placement) -> bool
     ensures { result ≡ is_some (tls_segment place.now) }
 {
-    thread_local_header(place).is_some()
+    thread_segment(place).is_some()
 }
 
 /// How many sections of a placement have a header of a kind.

@@ -3,10 +3,12 @@
 //! A placement comes in, with the rows of the tail's parts (name, place, size), the address of the entry
 //! and whether the stack may be executed. Out come the first 4,088 bytes of the image (`headers`: the file
 //! header, the program headers, zeros), or the limit where the placement asks for more than 64 program
-//! headers; and the bytes of the section headers (`section_headers`).
+//! headers; the bytes of the section headers (`section_headers`); and where the placement's thread-local
+//! block begins and ends (`tls_start`, `tls_end`).
 //!
 //! The contracts cite `FrontGives` (specs/Front.antt) and `section_table_bytes` (specs/SectionTable.antt),
-//! on any placement and any rows: what no field can hold is written by its low bytes. Callers rely on
+//! on any placement and any rows: what no field can hold is written by its low bytes. Those of the
+//! thread-local block cite the definitions of these names in lk_model. Callers rely on
 //! `headers_are_the_models`: over the rows of the parts of a tail these are lk_model's `header_bytes` and
 //! `section_headers`. Both are linear in the rows; a name is looked up by hash.
 #![tactic(auto)]
@@ -30,7 +32,9 @@ mod shown;
 #[cfg(test)]
 mod tests;
 mod thread;
+mod thread_block;
 
 pub use front::headers;
 pub use laws::headers_are_the_models;
 pub use section_table::section_headers;
+pub use thread_block::{tls_end, tls_start};

@@ -1,7 +1,8 @@
-//! Headers whose bytes are known from outside, and the limit.
+//! Headers whose bytes are known from outside, the limit, and the ends of thread-local blocks.
 
 use crate::front::headers;
 use crate::section_table::section_headers;
+use crate::thread_block::{tls_end, tls_start};
 use lk_model::layouts::{
     Class, LayoutFault, Placement, SectionKey, SectionRow, SectionRowList, SlotTable,
 };
@@ -325,5 +326,51 @@ fn sixty_four_program_headers_are_the_most(rt: HostRuntime) -> Result<(), Fail> 
             number: 65,
         }))
     );
+    Ok(())
+}
+
+/// A placement of thread-local data alone, and of zeros after it where they have a byte.
+fn thread_local(alloc: Global, data: [u64; 3], zeros: [u64; 3]) -> Result<Placement, NoMemory> {
+    let mut rows = List::new(alloc);
+    let [addr, room, align] = data;
+    rows.push(row(
+        alloc,
+        b".tdata",
+        Class::Tdata,
+        [addr, 0x1000, room, room, align],
+    )?)?;
+    let [addr, room, align] = zeros;
+    if room > 0 {
+        rows.push(row(
+            alloc,
+            b".tbss",
+            Class::Tbss,
+            [addr, 0x1000, room, room, align],
+        )?)?;
+    }
+    Ok(placed(alloc, rows))
+}
+
+#[test]
+fn the_thread_pointer_stands_at_a_multiple_of_the_alignment(rt: HostRuntime) -> Result<(), Fail> {
+    let alloc = rt.alloc();
+    let data = thread_local(alloc, [0x405000, 64, 128], [0, 0, 0])?;
+    assert_eq!(rt; tls_start(&data), 0x405000);
+    assert_eq!(rt; tls_end(&data), 0x405080);
+    let both = thread_local(alloc, [0x405000, 72, 8], [0x405080, 8, 128])?;
+    assert_eq!(rt; tls_start(&both), 0x405000);
+    assert_eq!(rt; tls_end(&both), 0x405100);
+    Ok(())
+}
+
+#[test]
+fn a_block_may_end_past_the_last_address(rt: HostRuntime) -> Result<(), Fail> {
+    let alloc = rt.alloc();
+    let last = thread_local(alloc, [u64::MAX - 63, 64, 128], [0, 0, 0])?;
+    assert_eq!(rt; tls_start(&last), u64::MAX - 63);
+    assert_eq!(rt; tls_end(&last), (1 << 64) + 64);
+    let none = placed(alloc, small_rows(alloc)?);
+    assert_eq!(rt; tls_start(&none), 0);
+    assert_eq!(rt; tls_end(&none), 0);
     Ok(())
 }

@@ -1,7 +1,0 @@
-use Rattle.std.proofs.Common.{refl, ◌∙◌}
-use Rattle.lk_model.specs.Segments.{tls_segment}
-use Rattle.lk_headers.proofs.thread.thread_local_header.Goals as goal
-
-pub returns : goal.returns
-unfolding tls_segment
-returns c = c.header_over.ensures ∙ rw (c.row_of_class.ensures, c.row_of_class-2.ensures, c.as_slice-rows.ensures) refl
