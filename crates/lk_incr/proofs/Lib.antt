@@ -1,0 +1,6 @@
+pub mod Numbers
+pub mod TextTables
+pub mod RowsNoted
+pub mod Spelling
+pub mod TextsNoted
+pub mod TailsMade

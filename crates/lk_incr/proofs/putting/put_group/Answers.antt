@@ -1,0 +1,5 @@
+use Rattle.lk_incr.proofs.Spelling.{put_group}
+use Rattle.lk_incr.proofs.putting.put_group.Goals as goal
+
+pub returns : goal.returns
+returns c = put_group _ c.args.group.now _ _ _ _ _ c.group_head.ensures c.as_slice.ensures c.in_ok-put_fields.ensures c.in_ok-put_members.ensures

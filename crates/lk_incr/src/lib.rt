@@ -1,0 +1,34 @@
+//! The records of an image: what a link writes so that a later link can update it.
+//!
+//! The records of a link come in (`Records`: its options, all inputs with their pieces, symbols and groups,
+//! and where everything stands). Out come the two record sections that an image has today,
+//! `.gnu_incremental_inputs` and `.gnu_incremental_strtab` (`write_inputs`), the names of the sections
+//! (`section_names`), and the three as the parts of the image's tail in their order (`tail`).
+//!
+//! The contracts cite lk_model's `inputs_fields`, `spelled` and `table_of`: the section is the bytes of its
+//! fields one after another, a text stands in it by its place in the table of texts, and the table has each
+//! text once, in order of first use. They speak of any records: a number that is greater than its field is
+//! written by its low bytes, as the definitions say, so that nothing is asked of the numbers. Callers rely
+//! on the clause of `tail`: for the records of a link the parts are lk_model's `tail_parts`.
+//!
+//! The records are gone over twice: the first walk (`noting`) fills the table of texts, the second (`putting`)
+//! writes the fields. A text's place and a piece's row are looked up by hash, so both are linear.
+#![tactic(auto)]
+
+mod appending;
+mod fields;
+mod heads;
+mod input_heads;
+mod inputs_section;
+mod noting;
+mod pieces;
+mod placed_pieces;
+mod putting;
+mod summaries;
+mod tail_parts;
+#[cfg(test)]
+mod tests;
+mod text_table;
+
+pub use inputs_section::{InputsAndTexts, write_inputs};
+pub use tail_parts::{Tail, TailPart, section_names, tail};

@@ -1,0 +1,144 @@
+//! The second walk over the records: the bytes of the inputs section, record by record, with each text by
+//! its place in the table.
+
+ghost use Rattle.std.specs.Prelude.{◌≡◌, ◌++◌, OnOk};
+ghost use Rattle.std.specs.List.{enumerate_from, flat_map};
+ghost use Rattle.lk_elf.specs.Fields.{bytes_of};
+ghost use Rattle.lk_model.specs.InputsSection.{global_fields, group_fields, input_fields, inputs_fields, piece_fields, section_fields};
+ghost use Rattle.lk_model.specs.RecordFields.{spelled};
+ghost use Rattle.lk_model.specs.Texts.{offset_in};
+
+use crate::appending::put_short;
+use crate::fields::put_fields;
+use crate::heads::{head_fields, section_fields};
+use crate::input_heads::input_head;
+use crate::pieces::piece_fields;
+use crate::placed_pieces::PlacedPieces;
+use crate::summaries::{global_fields, group_head};
+use crate::text_table::TextTable;
+use lk_model::layouts::SectionRow;
+use lk_model::records::{InputRecord, Records};
+use lk_model::summaries::{Global, Group, PieceInfo};
+use lk_report::NoMemory;
+
+/// Puts output sections at the end.
+#[tactic(auto, unfolding(lk_model::specs::RecordFields::spelled))]
+fn put_sections(
+    out: &mut Vec<u8>,
+    table: &TextTable<'_>,
+    rows: &[SectionRow],
+) -> Result<(), NoMemory>
+    ensures { OnOk result (out.new.items ≡ out.old.items ++ spelled (offset_in table.now) (flat_map section_fields rows.now)) }
+{
+    for row in rows {
+        put_fields(out, table, &section_fields(row))?;
+    }
+    Ok(())
+}
+
+/// Puts pieces of the input with this number at the end.
+#[tactic(auto, unfolding(lk_model::specs::RecordFields::spelled))]
+fn put_pieces(
+    out: &mut Vec<u8>,
+    table: &TextTable<'_>,
+    placed: &PlacedPieces<'_>,
+    input: u64,
+    pieces: &[PieceInfo],
+) -> Result<(), NoMemory>
+    ensures { OnOk result (out.new.items ≡ out.old.items ++ spelled (offset_in table.now) (flat_map (piece_fields placed.now input) pieces.now)) }
+{
+    for piece in pieces {
+        put_fields(out, table, &piece_fields(placed, input, piece))?;
+    }
+    Ok(())
+}
+
+/// Puts symbols at the end.
+#[tactic(auto, unfolding(lk_model::specs::RecordFields::spelled))]
+fn put_globals(out: &mut Vec<u8>, table: &TextTable<'_>, globals: &[Global]) -> Result<(), NoMemory>
+    ensures { OnOk result (out.new.items ≡ out.old.items ++ spelled (offset_in table.now) (flat_map global_fields globals.now)) }
+{
+    for global in globals {
+        put_fields(out, table, &global_fields(global))?;
+    }
+    Ok(())
+}
+
+/// Puts the members of a group at the end.
+fn put_members(out: &mut Vec<u8>, members: &[u32]) -> Result<(), NoMemory>
+    ensures { OnOk result (out.new.items ≡ out.old.items ++ flat_map (bytes_of 4) members.now) }
+{
+    for member in members {
+        put_short(out, *member as u64)?;
+    }
+    Ok(())
+}
+
+/// Puts a group at the end.
+fn put_group(out: &mut Vec<u8>, table: &TextTable<'_>, group: &Group) -> Result<(), NoMemory>
+    ensures { OnOk result (out.new.items ≡ out.old.items ++ spelled (offset_in table.now) (group_fields group.now)) }
+{
+    put_fields(out, table, &group_head(group))?;
+    put_members(out, group.members.as_slice())?;
+    Ok(())
+}
+
+/// Puts groups at the end.
+#[tactic(auto, unfolding(lk_model::specs::RecordFields::spelled))]
+fn put_groups(out: &mut Vec<u8>, table: &TextTable<'_>, groups: &[Group]) -> Result<(), NoMemory>
+    ensures { OnOk result (out.new.items ≡ out.old.items ++ spelled (offset_in table.now) (flat_map group_fields groups.now)) }
+{
+    for group in groups {
+        put_group(out, table, group)?;
+    }
+    Ok(())
+}
+
+/// Puts the input with this number at the end: its head, its pieces, its symbols and its groups.
+fn put_input(
+    out: &mut Vec<u8>,
+    table: &TextTable<'_>,
+    placed: &PlacedPieces<'_>,
+    number: u64,
+    input: &InputRecord,
+) -> Result<(), NoMemory>
+    ensures { OnOk result (out.new.items ≡ out.old.items ++ spelled (offset_in table.now) (input_fields placed.now (number, input.now))) }
+{
+    let summary = &input.summary;
+    put_fields(out, table, &input_head(input))?;
+    put_pieces(out, table, placed, number, summary.pieces.as_slice())?;
+    put_globals(out, table, summary.globals.as_slice())?;
+    put_groups(out, table, summary.groups.as_slice())?;
+    Ok(())
+}
+
+/// Puts all inputs at the end, in their order.
+fn put_inputs(
+    out: &mut Vec<u8>,
+    table: &TextTable<'_>,
+    placed: &PlacedPieces<'_>,
+    inputs: &[InputRecord],
+) -> Result<(), NoMemory>
+    ensures { OnOk result (out.new.items ≡ out.old.items ++ spelled (offset_in table.now) (flat_map (input_fields placed.now) (enumerate_from 0 inputs.now))) }
+{
+    for (number, input) in inputs.iter().enumerate() {
+        put_input(out, table, placed, number as u64, input)?;
+    }
+    Ok(())
+}
+
+/// Puts the inputs section at the end: the head, the output sections, the inputs.
+pub(crate) fn put_inputs_section(
+    out: &mut Vec<u8>,
+    table: &TextTable<'_>,
+    placed: &PlacedPieces<'_>,
+    records: &Records,
+) -> Result<(), NoMemory>
+    requires { placed.now ≡ records.now.placement }
+    ensures { OnOk result (out.new.items ≡ out.old.items ++ spelled (offset_in table.now) (inputs_fields records.now)) }
+{
+    put_fields(out, table, &head_fields(records))?;
+    put_sections(out, table, records.placement.sections.as_slice())?;
+    put_inputs(out, table, placed, records.inputs.as_slice())?;
+    Ok(())
+}
