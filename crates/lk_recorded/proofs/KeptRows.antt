@@ -6,7 +6,7 @@ use Rattle.std.proofs.Common.{arith, inl}
 use Rattle.std.proofs.lemmas.List.Elements.{filter_map-append}
 use mathlib.Core.Path.{subst, ap, ◌∙◌}
 use Rattle.lk_model.specs.FullPlace.{numbered_row, offset_in, piece_row, placed_at}
-use Rattle.lk_model.specs.KeptPieces.{copy_piece, is_input_piece, name_piece, name_pieces}
+use Rattle.lk_model.specs.KeptPieces.{bss_key, common_piece, copy_piece, is_input_piece, name_piece, name_pieces}
 use Rattle.lk_model.specs.Numbered.{is_number_in}
 use Rattle.lk_model.specs.RecordedPlace.{is_made_piece}
 use Rattle.lk_model.specs.SectionKeys.{same_key}
@@ -113,27 +113,35 @@ filter-all test (x ∷ xs) (here, more) = rw here (ap (λ l. x ∷ l) (filter-al
 
 -- ---- commons and copies
 
-name-piece-made : (copies : List ℕ) (name : ℕ) (cs : Contributions) (w : Winner) (others : List KeptPiece) → AllByRecursion (λ (k : KeptPiece). is_input_piece k ≡ false) others
-    → AllByRecursion (λ (k : KeptPiece). is_input_piece k ≡ false) (cons_option (name_piece copies name cs w) others)
-name-piece-made copies name cs (winner.Common size align) others all = (refl, all)
-name-piece-made copies name cs (winner.Import input symbol) others all = go (is_number_in copies name) (symbol_among cs.list input symbol)
-  where
-    go : (copied : Bool) (found : Option Global) → AllByRecursion (λ (k : KeptPiece). is_input_piece k ≡ false) (cons_option (cond copied (option_map (copy_piece name) found) None) others)
-    go false found = all
-    go true None = all
-    go true (Some g) = (refl, all)
-name-piece-made copies name cs winner.Nothing others all = all
-name-piece-made copies name cs (winner.Strong input symbol) others all = all
-name-piece-made copies name cs (winner.Weak input symbol) others all = all
-name-piece-made copies name cs winner.Made others all = all
+module _ (P : KeptPiece → Type 0) (common : (name size align : ℕ) → P (common_piece name size align)) (copy : (name : ℕ) (g : Global) → P (copy_piece name g)) where
+  name-piece-all : (copies : List ℕ) (name : ℕ) (cs : Contributions) (w : Winner) (others : List KeptPiece) → AllByRecursion P others → AllByRecursion P (cons_option (name_piece copies name cs w) others)
+  name-piece-all copies name cs (winner.Common size align) others all = (common name size align, all)
+  name-piece-all copies name cs (winner.Import input symbol) others all = go (is_number_in copies name) (symbol_among cs.list input symbol)
+    where
+      go : (copied : Bool) (found : Option Global) → AllByRecursion P (cons_option (cond copied (option_map (copy_piece name) found) None) others)
+      go false found = all
+      go true None = all
+      go true (Some g) = (copy name g, all)
+  name-piece-all copies name cs winner.Nothing others all = all
+  name-piece-all copies name cs (winner.Strong input symbol) others all = all
+  name-piece-all copies name cs (winner.Weak input symbol) others all = all
+  name-piece-all copies name cs winner.Made others all = all
 
-names-from-made : (copies : List ℕ) (n : ℕ) (names : List Contributions) (winners : List Winner)
-    → AllByRecursion (λ (k : KeptPiece). is_input_piece k ≡ false) (filter_map (λ (x : ℕ × (Contributions × Winner)). name_piece copies x.0 x.1.0 x.1.1) (enumerate_from n (zip names winners)))
-names-from-made copies n [] winners = tt
-names-from-made copies n (cs ∷ names) [] = tt
-names-from-made copies n (cs ∷ names) (w ∷ winners) =
-    name-piece-made copies n cs w (filter_map (λ (x : ℕ × (Contributions × Winner)). name_piece copies x.0 x.1.0 x.1.1) (enumerate_from (n + 1) (zip names winners)))
-    (names-from-made copies (n + 1) names winners)
+  names-from-all : (copies : List ℕ) (n : ℕ) (names : List Contributions) (winners : List Winner)
+      → AllByRecursion P (filter_map (λ (x : ℕ × (Contributions × Winner)). name_piece copies x.0 x.1.0 x.1.1) (enumerate_from n (zip names winners)))
+  names-from-all copies n [] winners = tt
+  names-from-all copies n (cs ∷ names) [] = tt
+  names-from-all copies n (cs ∷ names) (w ∷ winners) =
+      name-piece-all copies n cs w (filter_map (λ (x : ℕ × (Contributions × Winner)). name_piece copies x.0 x.1.0 x.1.1) (enumerate_from (n + 1) (zip names winners)))
+      (names-from-all copies (n + 1) names winners)
+
+  -- what holds of commons and of copies holds of the pieces of names
+  pub names-all : (copies : List ℕ) (names : List Contributions) (winners : List Winner) → AllByRecursion P (name_pieces copies names winners)
+  names-all copies names winners = names-from-all copies 0 names winners
 
 pub names-made : (copies : List ℕ) (names : List Contributions) (winners : List Winner) → AllByRecursion (λ (k : KeptPiece). is_input_piece k ≡ false) (name_pieces copies names winners)
-names-made copies names winners = names-from-made copies 0 names winners
+names-made copies names winners = names-all (λ k. is_input_piece k ≡ false) (λ name size align. refl) (λ name g. refl) copies names winners
+
+-- they go to `.bss`
+pub names-bss : (copies : List ℕ) (names : List Contributions) (winners : List Winner) → AllByRecursion (λ (k : KeptPiece). k.key ≡ bss_key) (name_pieces copies names winners)
+names-bss copies names winners = names-all (λ k. k.key ≡ bss_key) (λ name size align. refl) (λ name g. refl) copies names winners

@@ -15,5 +15,8 @@ pub mod LinkRead
 pub mod SectionsBack
 pub mod HeaderNumbers
 pub mod TailHeaders
+pub mod RowNumbers
+pub mod RowNames
+pub mod Limits
 pub mod NamedParts
 pub mod Recorded

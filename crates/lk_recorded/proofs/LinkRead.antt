@@ -10,7 +10,7 @@ use Rattle.lk_model.specs.Finding.{Found, found_of}
 use Rattle.lk_model.specs.FullPlace.{full_place, piece_rows}
 use Rattle.lk_model.specs.InputsReading.{ReadInputs, inputs_read}
 use Rattle.lk_model.specs.InputsSection.{inputs_fields}
-use Rattle.lk_model.specs.KeptPieces.{is_input_piece, kept_sections, name_pieces}
+use Rattle.lk_model.specs.KeptPieces.{bss_key, is_input_piece, kept_sections, name_pieces}
 use Rattle.lk_model.specs.NeedsOf.{needs_of}
 use Rattle.lk_model.specs.Keys.{piece_row_of}
 use Rattle.lk_model.specs.Numbered.{Numbered}
@@ -31,7 +31,7 @@ use Rattle.lk_recorded.proofs.AddedOnce.{IsOf, added-of, added-once}
 use Rattle.lk_recorded.proofs.Candidates.{HasDistinct, candidates, candidates-apart, candidates-input, kept-within}
 use Rattle.lk_recorded.proofs.FoundAgain.{Matches, row_among}
 use Rattle.lk_recorded.proofs.InputsRead.{inputs-read, read_of_records}
-use Rattle.lk_recorded.proofs.KeptRows.{filter-all, filter-none, names-made, rows-append, rows-made, rows-within, rows_from}
+use Rattle.lk_recorded.proofs.KeptRows.{filter-all, filter-none, names-bss, names-made, rows-append, rows-made, rows-within, rows_from}
 use Rattle.lk_recorded.proofs.LinkFields.{PiecesSuit, fields-of-records-fit, inputs-suit}
 use Rattle.lk_recorded.proofs.PlacedAgain.{all-at, all-placed, found-there, piece-suits, placed-again, rows-again, rows-are}
 use Rattle.lk_recorded.proofs.ReadOrder.{order-again, read_from}
@@ -46,6 +46,7 @@ pub record IsFull (r : Resolved) (place : Placement) : Type 0 where
   pub names : List KeptPiece
   pub kept : r.kept ≡ kept_sections (added_inputs r.options.entry r.inputs) ++ names
   pub made : AllByRecursion (λ (k : KeptPiece). is_input_piece k ≡ false) names
+  pub bss : AllByRecursion (λ (k : KeptPiece). k.key ≡ bss_key) names
   pub pieces : place.pieces ≡ rows_from place.sections r.kept 0 r.kept
 
 pub full-link : (options : OptionRecord) (inputs : List Input) → IsFull (resolve options inputs) (full_place (resolve options inputs))
@@ -53,7 +54,7 @@ unfolding resolve found_of full_place piece_rows
 full-link options inputs =
     let found : Found = found_of (paths_of inputs) options.entry (added_inputs options.entry inputs) in
     let copies : List ℕ = (needs_of found (sited_of found.names inputs found.sections)).copies in
-    record { names = name_pieces copies found.names found.winners; kept = refl; made = names-made copies found.names found.winners; pieces = refl }
+    record { names = name_pieces copies found.names found.winners; kept = refl; made = names-made copies found.names found.winners; bss = names-bss copies found.names found.winners; pieces = refl }
 
 module _ (r : Resolved) (place : Placement) (full : IsFull r place) where
   -- ---- the rows of sections, then those of commons and copies

@@ -113,3 +113,16 @@ pub record IsRecordable (r : Resolved) (place : Placement) : Type 0 where
   pub sections : AllByRecursion RowFits place.sections
   pub pieces : AllByRecursion (λ (p : PieceRow). p.addr < 2 ^ 64) place.pieces
   pub image : image_length r place < 2 ^ 32
+
+-- ---- what is known before anything is placed
+
+-- the pieces of an input are not named as the sections of records
+abbrev pub HasOtherNames : Input → Type 0
+HasOtherNames i = AllByRecursion (λ (p : PieceInfo). is_record_name p.name ≡ false) i.summary.pieces
+
+-- options and inputs whose numbers and texts fit
+pub record InputsFit (o : OptionRecord) (xs : List Input) : Type 0 where
+  pub options : OptionsFit o
+  pub count : length xs < 2 ^ 32
+  pub inputs : AllByRecursion InputFits xs
+  pub names : AllByRecursion HasOtherNames xs

@@ -1,14 +1,16 @@
 -- An image records the placement that it was made at (this project's own): its record sections, found
 -- through its section headers, read back to that placement.
-use Rattle.std.specs.Prelude.{◌≡◌, ℕ, List, Some}
+use Rattle.std.specs.Prelude.{◌≡◌, ℕ, List, None, Some}
 use Rattle.lk_report.specs.declared.causes.OptionRecord.{OptionRecord}
+use Rattle.lk_model.specs.Answers.{placement_limit}
 use Rattle.lk_model.specs.FullPlace.{full_place}
 use Rattle.lk_model.specs.Images.{stretches_of}
+use Rattle.lk_model.specs.Lawful.{Lawful}
 use Rattle.lk_model.specs.RecordedPlace.{recorded_place}
 use Rattle.lk_model.specs.Resolving.{resolve}
 use Rattle.lk_model.specs.Stretches.{IsLaidOut}
 use Rattle.lk_model.specs.Views.{Input}
-use Rattle.lk_recorded.specs.Recordable.{IsRecordable}
+use Rattle.lk_recorded.specs.Recordable.{InputsFit, IsRecordable}
 
 -- for any options and any inputs, static or dynamic, with any lib groups: an image that has the stretches
 -- of the full placement of what resolution finds records that placement
@@ -16,3 +18,9 @@ abbrev pub FullPlaceIsRecorded : Type 0
 FullPlaceIsRecorded = (options : OptionRecord) (inputs : List Input) (image : List ℕ) →
     let r = resolve options inputs in
     IsRecordable r (full_place r) → IsLaidOut (stretches_of r (full_place r)) image → recorded_place r image ≡ Some (full_place r)
+
+-- and it can be recorded where options and inputs fit, the placement is lawful and no limit is exceeded
+abbrev pub LimitsMakeRecordable : Type 0
+LimitsMakeRecordable = (options : OptionRecord) (inputs : List Input) →
+    let r = resolve options inputs in
+    InputsFit options inputs → Lawful r (full_place r) → placement_limit r (full_place r) ≡ None → IsRecordable r (full_place r)

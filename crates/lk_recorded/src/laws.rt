@@ -1,9 +1,15 @@
 //! What an image records, as contracts of functions that do nothing: what is stated in specs/ alone could
 //! stay unproved.
 
-ghost use Rattle.lk_recorded.specs.RecordedLaws.{FullPlaceIsRecorded};
+ghost use Rattle.lk_recorded.specs.RecordedLaws.{FullPlaceIsRecorded, LimitsMakeRecordable};
 
-/// An image that has the stretches of a full placement records that placement.
+/// An image that has the stretches of a full placement records that placement, where it is recordable:
+/// every number and text fits the field that a record has for it.
 pub fn full_place_is_recorded()
     ensures { FullPlaceIsRecorded }
+{}
+
+/// A lawful full placement within the limits is recordable, where the options and the inputs fit.
+pub fn limits_make_recordable()
+    ensures { LimitsMakeRecordable }
 {}

@@ -10,4 +10,4 @@
 
 mod laws;
 
-pub use laws::full_place_is_recorded;
+pub use laws::{full_place_is_recorded, limits_make_recordable};
