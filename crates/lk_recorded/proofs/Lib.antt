@@ -18,5 +18,11 @@ pub mod TailHeaders
 pub mod RowNumbers
 pub mod RowNames
 pub mod Limits
+pub mod ByteNumbers
+pub mod ReadNames
+pub mod ObjectFits
+pub mod SharedFits
+pub mod SoundNames
+pub mod CommandInputs
 pub mod NamedParts
 pub mod Recorded

@@ -1,2 +1,3 @@
 pub mod Recordable
+pub mod CommandFits
 pub mod RecordedLaws

@@ -1,15 +1,19 @@
 -- An image records the placement that it was made at (this project's own): its record sections, found
 -- through its section headers, read back to that placement.
 use Rattle.std.specs.Prelude.{◌≡◌, ℕ, List, None, Some}
+use Rattle.lk_report.specs.FileMap.{FileMap}
 use Rattle.lk_report.specs.declared.causes.OptionRecord.{OptionRecord}
 use Rattle.lk_model.specs.Answers.{placement_limit}
 use Rattle.lk_model.specs.FullPlace.{full_place}
 use Rattle.lk_model.specs.Images.{stretches_of}
+use Rattle.lk_model.specs.Inputs.{inputs_of}
 use Rattle.lk_model.specs.Lawful.{Lawful}
 use Rattle.lk_model.specs.RecordedPlace.{recorded_place}
 use Rattle.lk_model.specs.Resolving.{resolve}
 use Rattle.lk_model.specs.Stretches.{IsLaidOut}
 use Rattle.lk_model.specs.Views.{Input}
+use Rattle.lk_model.specs.declared.commands.Command.{Command}
+use Rattle.lk_recorded.specs.CommandFits.{AreSound, CommandFits, FilesFit}
 use Rattle.lk_recorded.specs.Recordable.{InputsFit, IsRecordable}
 
 -- for any options and any inputs, static or dynamic, with any lib groups: an image that has the stretches
@@ -24,3 +28,7 @@ abbrev pub LimitsMakeRecordable : Type 0
 LimitsMakeRecordable = (options : OptionRecord) (inputs : List Input) →
     let r = resolve options inputs in
     InputsFit options inputs → Lawful r (full_place r) → placement_limit r (full_place r) ≡ None → IsRecordable r (full_place r)
+
+-- the inputs of a command fit, where its words and its files do and no input has a fault
+abbrev pub InputsOfCommandsFit : Type 0
+InputsOfCommandsFit = (c : Command) (files : FileMap) → CommandFits c → FilesFit files → AreSound c files → InputsFit c.options (inputs_of c files)

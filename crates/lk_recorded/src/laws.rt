@@ -1,7 +1,7 @@
 //! What an image records, as contracts of functions that do nothing: what is stated in specs/ alone could
 //! stay unproved.
 
-ghost use Rattle.lk_recorded.specs.RecordedLaws.{FullPlaceIsRecorded, LimitsMakeRecordable};
+ghost use Rattle.lk_recorded.specs.RecordedLaws.{FullPlaceIsRecorded, InputsOfCommandsFit, LimitsMakeRecordable};
 
 /// An image that has the stretches of a full placement records that placement, where it is recordable:
 /// every number and text fits the field that a record has for it.
@@ -12,4 +12,10 @@ pub fn full_place_is_recorded()
 /// A lawful full placement within the limits is recordable, where the options and the inputs fit.
 pub fn limits_make_recordable()
     ensures { LimitsMakeRecordable }
+{}
+
+/// The inputs of a command fit, where its words hold no zero byte, its files are bytes, and no input has a
+/// fault or is longer than a field tells.
+pub fn inputs_of_commands_fit()
+    ensures { InputsOfCommandsFit }
 {}
