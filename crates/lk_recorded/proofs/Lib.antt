@@ -22,7 +22,11 @@ pub mod ByteNumbers
 pub mod ReadNames
 pub mod ObjectFits
 pub mod SharedFits
+pub mod NoFaults
 pub mod SoundNames
 pub mod CommandInputs
+pub mod CommandTexts
+pub mod CommandItems
+pub mod AnswerRecords
 pub mod NamedParts
 pub mod Recorded

@@ -35,7 +35,7 @@ first-none : {X : Type 0} (first second : Option X) → elim first as (λ _. Opt
 first-none None second none = (refl, none)
 first-none (Some s) second none = absurd (cc)
 
-limit-tells : (which : LimitKind) (most number : ℕ) → limit_fault which most number ≡ None → number ≤ most
+pub limit-tells : (which : LimitKind) (most number : ℕ) → limit_fault which most number ≡ None → number ≤ most
 limit-tells which most number none = go (nat_lt most number) refl none
   where
     go : (b : Bool) → nat_lt most number ≡ b → (if b then Some (status.Limit (record { which = which; number = number })) else None) ≡ None → number ≤ most

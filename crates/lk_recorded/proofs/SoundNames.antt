@@ -1,7 +1,7 @@
 -- The pieces of an object without a fault are not named as the sections of records: a check refuses the
 -- names of the tail.
-use Rattle.std.specs.Prelude.{◌≡◌, refl, ℕ, ◌==◌, Bool, true, false, ◌&&◌, ◌||◌, List, [], ◌∷◌, ◌++◌, codes, flat_map, Option, Some, None}
-use Rattle.std.specs.List.{AllByRecursion, list_any}
+use Rattle.std.specs.Prelude.{◌≡◌, ℕ, ◌==◌, true, false, ◌&&◌, ◌||◌, List, [], ◌++◌, codes, flat_map, Option, Some, None}
+use Rattle.std.specs.List.{AllByRecursion}
 use Rattle.std.specs.Str.{bytes_eq}
 use Rattle.std.proofs.Common.{sym, subst, ap, ◌∙◌}
 use Rattle.std.proofs.lemmas.Bool.{or_parts, or_from}
@@ -17,45 +17,8 @@ use Rattle.lk_model.specs.Views.{Elf}
 use Rattle.lk_model.specs.declared.summaries.PieceInfo.{PieceInfo}
 use Rattle.lk_recorded.specs.Recordable.{is_record_name}
 use Rattle.lk_recorded.proofs.ByteNumbers.{all-found}
+use Rattle.lk_recorded.proofs.NoFaults.{NoFault, all-false, none-any, none-both, none-each}
 use Rattle.lk_recorded.proofs.ObjectFits.{IsPieceOf, found_piece, piece-found}
-
--- ---- where no check finds a fault
-
-abbrev Check : Type 0
-Check = Bool × InputFault
-
-abbrev NoFault : List Check → Type 0
-NoFault checks = first_fault checks ≡ None
-
-after-first : (b : Bool) (f : InputFault) (checks : List Check) → NoFault ((b, f) ∷ checks) → (b ≡ false) × NoFault checks
-after-first true f checks none = absurd (cc)
-after-first false f checks none = (refl, none)
-
-none-both : (xs ys : List Check) → NoFault (xs ++ ys) → NoFault xs × NoFault ys
-none-both [] ys none = (refl, none)
-none-both ((b, f) ∷ xs) ys none =
-    let step = after-first b f (xs ++ ys) none in
-    let rest = none-both xs ys step.1 in
-    (rw step.0 rest.0, rest.1)
-
-none-each : {X : Type 0} (checks : X → List Check) (xs : List X) → NoFault (flat_map checks xs) → AllByRecursion (λ x. NoFault (checks x)) xs
-none-each checks [] none = tt
-none-each checks (x ∷ xs) none =
-    let both = none-both (checks x) (flat_map checks xs) none in
-    (both.0, none-each checks xs both.1)
-
--- none of the conditions holds
-all-false : (checks : List Check) → NoFault checks → AllByRecursion (λ (c : Check). c.0 ≡ false) checks
-all-false [] none = tt
-all-false ((b, f) ∷ checks) none =
-    let step = after-first b f checks none in
-    (step.0, all-false checks step.1)
-
-none-any : {X : Type 0} (test : X → Bool) (xs : List X) → list_any test xs ≡ false → AllByRecursion (λ x. test x ≡ false) xs
-none-any test [] none = tt
-none-any test (x ∷ xs) none =
-    let both = or_parts (test x) (list_any test xs) none in
-    (both.0, none-any test xs both.1)
 
 -- ---- the names of sections
 
