@@ -8,12 +8,7 @@ use Rattle.lk_model.specs.Adding.{added_inputs, is_wanted_member, item_added, it
 use Rattle.lk_model.specs.Numbered.{Numbered, numbered_from}
 use Rattle.lk_model.specs.Queues.{listed_within, next, turn}
 use Rattle.lk_model.specs.Views.{Input}
-
--- ---- what holds of all of two lists
-
-pub all-append : {X : Type 0} (P : X → Type 0) (xs ys : List X) → AllByRecursion P xs → AllByRecursion P ys → AllByRecursion P (xs ++ ys)
-all-append P [] ys first second = second
-all-append P (x ∷ xs) ys (here, more) second = (here, all-append P xs ys more second)
+use Rattle.lk_recorded.proofs.Lists.{all-append}
 
 -- ---- how often a number stands in a list
 

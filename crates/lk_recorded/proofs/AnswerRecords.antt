@@ -30,6 +30,7 @@ use Rattle.lk_recorded.specs.RecordedLaws.{FullLinksAreRecorded}
 use Rattle.lk_recorded.proofs.CommandInputs.{inputs-of-commands-fit}
 use Rattle.lk_recorded.proofs.CommandItems.{commands-fit}
 use Rattle.lk_recorded.proofs.Limits.{limit-tells, limits-make-recordable}
+use Rattle.lk_recorded.proofs.Lists.{first-none}
 use Rattle.lk_recorded.proofs.Recorded.{full-place-recorded}
 
 -- ---- answers that are no full link
@@ -151,10 +152,6 @@ each-sound (i ∷ inputs) none = go (object_fault i.elf.bytes) refl none (each-s
         → (object_fault i.elf.bytes ≡ None) × AllByRecursion (λ (x : Input). object_fault x.elf.bytes ≡ None) inputs
     go None e h later = (e, later h)
     go (Some f) e h later = absurd (cc)
-
-first-none : {X : Type 0} (first second : Option X) → elim first as (λ _. Option X) [ Some s ↦ Some s | None ↦ second ] ≡ None → (first ≡ None) × (second ≡ None)
-first-none None second none = (refl, none)
-first-none (Some s) second none = absurd (cc)
 
 each-short : (before : ℕ) (inputs : List Input) → size_limit before inputs ≡ None → AllByRecursion (λ (i : Input). length i.elf.bytes ≤ 2 ^ 26) inputs
 each-short before [] none = tt

@@ -1,11 +1,10 @@
 -- The numbers of a file's fields are below their widths (gABI "Data Representation"), and a file has no more
 -- headers and symbols than its fields and its length tell.
-use Rattle.std.specs.Prelude.{◌≡◌, refl, ℕ, zero, suc, ◌+◌, ◌*◌, ◌/◌, ◌^◌, ◌<◌, ◌≤◌, Bool, true, false, if◌then◌else◌, List, [], ◌∷◌, drop, filter, filter_map, length, map, take, Option, Some, None}
-use Rattle.std.specs.List.{AllByRecursion, cons_option, enumerate_from, range_with_len}
-use Rattle.std.proofs.Common.{arith, ap, ◌∙◌}
+use Rattle.std.specs.Prelude.{◌≡◌, refl, ℕ, zero, suc, ◌+◌, ◌*◌, ◌/◌, ◌^◌, ◌<◌, ◌≤◌, Bool, true, false, if◌then◌else◌, List, [], ◌∷◌, drop, length, take, Option, Some, None}
+use Rattle.std.specs.List.{AllByRecursion}
+use Rattle.std.proofs.Common.{arith}
 use Rattle.std.proofs.Math.Nat.{pow-suc}
 use Rattle.std.proofs.lemmas.Bool.{leb-true}
-use Rattle.std.proofs.lemmas.List.{length-map}
 use Rattle.lk_elf.specs.Fields.{num, number_of}
 use Rattle.lk_elf.specs.Numbers.{shdr_size, sym_size}
 use Rattle.lk_elf.specs.Records.{ehdr_at, shdr_at, sym_at}
@@ -14,65 +13,7 @@ use Rattle.lk_elf.specs.declared.section_header.Shdr.{Shdr}
 use Rattle.lk_elf.specs.declared.symbol.Sym.{Sym}
 use Rattle.lk_model.specs.Elf.{elf_of, elf_under, elf_with, first_of_type, lies_in, section_headers_of, symbols_of}
 use Rattle.lk_model.specs.Views.{Elf}
-
--- ---- lists
-
-pub all-drop : {X : Type 0} (P : X → Type 0) (k : ℕ) (xs : List X) → AllByRecursion P xs → AllByRecursion P (drop k xs)
-all-drop P zero xs all = all
-all-drop P (suc k) [] all = all
-all-drop P (suc k) (x ∷ xs) (here, more) = all-drop P k xs more
-
-pub length-drop-most : {X : Type 0} (k : ℕ) (xs : List X) → length (drop k xs) ≤ length xs
-length-drop-most zero xs = omega arith
-length-drop-most (suc k) [] = omega arith
-length-drop-most (suc k) (x ∷ xs) = let more = length-drop-most k xs in omega (arith, more)
-
-pub all-range : {X : Type 0} (P : X → Type 0) (f : ℕ → X) (from n : ℕ) → ((k : ℕ) → P (f k)) → AllByRecursion P (map f (range_with_len from n))
-all-range P f from zero each = tt
-all-range P f from (suc n) each = (each from, all-range P f (from + 1) n each)
-
-length-range : (from n : ℕ) → length (range_with_len from n) ≡ n
-length-range from zero = refl
-length-range from (suc n) = ap suc (length-range (from + 1) n)
-
-pub length-mapped : {X : Type 0} (f : ℕ → X) (from n : ℕ) → length (map f (range_with_len from n)) ≡ n
-length-mapped f from n = length-map (range_with_len from n) f ∙ length-range from n
-
--- items with numbers below a bound
-pub all-numbered : {X : Type 0} (P : X → Type 0) (n most : ℕ) (xs : List X) → n + length xs ≤ most → AllByRecursion P xs
-    → AllByRecursion (λ (row : ℕ × X). (row.0 < most) × P row.1) (enumerate_from n xs)
-all-numbered P n most [] few all = tt
-all-numbered P n most (x ∷ xs) few (here, more) = ((omega (arith, few), here), all-numbered P (n + 1) most xs (omega (arith, few)) more)
-
--- what is found of items
-pub all-found : {X Y : Type 0} (P : X → Type 0) (Q : Y → Type 0) (h : X → Option Y) (xs : List X) → ((x : X) → P x → (y : Y) → h x ≡ Some y → Q y)
-    → AllByRecursion P xs → AllByRecursion Q (filter_map h xs)
-all-found P Q h [] each all = tt
-all-found {X} {Y} P Q h (x ∷ xs) each (here, more) = go (h x) refl (all-found P Q h xs each more)
-  where
-    go : (o : Option Y) → h x ≡ o → AllByRecursion Q (filter_map h xs) → AllByRecursion Q (cons_option o (filter_map h xs))
-    go None e rest = rest
-    go (Some y) e rest = (each x here y e, rest)
-
-pub length-found : {X Y : Type 0} (h : X → Option Y) (xs : List X) → length (filter_map h xs) ≤ length xs
-length-found h [] = omega arith
-length-found {X} {Y} h (x ∷ xs) = go (h x) (length-found h xs)
-  where
-    go : (o : Option Y) → length (filter_map h xs) ≤ length xs → length (cons_option o (filter_map h xs)) ≤ suc (length xs)
-    go None rest = omega (arith, rest)
-    go (Some y) rest = omega (arith, rest)
-
-pub length-passing : {X : Type 0} (test : X → Bool) (xs : List X) → length (filter test xs) ≤ length xs
-length-passing test [] = omega arith
-length-passing {X} test (x ∷ xs) = go (test x) refl (length-passing test xs)
-  where
-    go : (b : Bool) → test x ≡ b → length (filter test xs) ≤ length xs → length (filter test (x ∷ xs)) ≤ suc (length xs)
-    go true e rest = rw e (omega (arith, rest))
-    go false e rest = rw e (omega (arith, rest))
-
-pub length-enumerated : {X : Type 0} (n : ℕ) (xs : List X) → length (enumerate_from n xs) ≡ length xs
-length-enumerated n [] = refl
-length-enumerated n (x ∷ xs) = ap suc (length-enumerated (n + 1) xs)
+use Rattle.lk_recorded.proofs.Lists.{all-drop, all-range, length-mapped}
 
 -- ---- fields
 

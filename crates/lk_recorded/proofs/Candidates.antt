@@ -13,8 +13,8 @@ use Rattle.lk_model.specs.Views.{KeptPiece}
 use Rattle.lk_model.specs.declared.layouts.PieceId.TheVariants as id
 use Rattle.lk_model.specs.declared.summaries.PieceInfo.{PieceInfo}
 use Rattle.lk_recorded.specs.Recordable.{numbers_of}
-use Rattle.lk_recorded.proofs.AddedOnce.{all-append}
 use Rattle.lk_recorded.proofs.FoundAgain.{Apart, AllApart}
+use Rattle.lk_recorded.proofs.Lists.{all-append}
 use Rattle.lk_recorded.proofs.Within.{Within, Same, within-append, within-filter, within-map}
 
 -- the sections of an input, kept or not

@@ -1,5 +1,5 @@
 -- The inputs of a command fit: each has a path without a zero byte, small numbers, and a summary that fits.
-use Rattle.std.specs.Prelude.{◌≡◌, refl, ℕ, suc, ◌+◌, ◌^◌, ◌<◌, ◌==◌, Bool, true, false, if◌then◌else◌, List, [], ◌∷◌, ◌++◌, bytes_eq, codes, cond, filter_map, find, length, map, Some, None}
+use Rattle.std.specs.Prelude.{◌≡◌, refl, ℕ, suc, ◌+◌, ◌^◌, ◌<◌, ◌==◌, Bool, true, false, if◌then◌else◌, List, [], ◌∷◌, ◌++◌, bytes_eq, codes, filter_map, length, map, Some, None}
 use Rattle.std.specs.List.{AllByRecursion}
 use Rattle.std.proofs.Common.{arith, sym, subst, ap, ◌∙◌}
 use Rattle.std.proofs.lemmas.Bool.{or_from}
@@ -20,11 +20,9 @@ use Rattle.lk_model.specs.declared.summaries.PieceInfo.{PieceInfo}
 use Rattle.lk_recorded.specs.CommandFits.{FileFits, FilesFit, IsSound}
 use Rattle.lk_recorded.specs.Recordable.{HasOtherNames, InputFits, SummaryFits, has_zero, is_record_name}
 use Rattle.lk_recorded.specs.RecordedLaws.{InputsOfCommandsFit}
-use Rattle.lk_recorded.proofs.AddedOnce.{all-append}
-use Rattle.lk_recorded.proofs.ByteNumbers.{AreBytes, IsLowElf, all-found, elf-low, length-found, length-passing}
-use Rattle.lk_recorded.proofs.ObjectFits.{found-in-map, object-fits}
-use Rattle.lk_recorded.proofs.ReadNames.{and-then}
-use Rattle.lk_recorded.proofs.RowNumbers.{all-both}
+use Rattle.lk_recorded.proofs.ByteNumbers.{AreBytes, IsLowElf, elf-low}
+use Rattle.lk_recorded.proofs.Lists.{all-append, all-both, all-first, all-found, all-second, and-then, find-all, found-in-map, length-found, length-passing}
+use Rattle.lk_recorded.proofs.ObjectFits.{object-fits}
 use Rattle.lk_recorded.proofs.SharedFits.{shared-fits}
 use Rattle.lk_recorded.proofs.SoundNames.{pieces-other}
 
@@ -60,14 +58,6 @@ places-clean name (dir ∷ dirs) own (here, more) =
 candidates-clean : (c : Command) (name : List ℕ) → IsClean name → AllByRecursion IsClean c.dirs → AllByRecursion IsClean (candidates_of c name)
 unfolding candidates_of
 candidates-clean c name own dirs = places-clean name (c.dirs ++ standard_dirs) own (all-append IsClean c.dirs standard_dirs dirs (refl, (refl, tt)))
-
-find-all : {X : Type 0} (P : X → Type 0) (test : X → Bool) (xs : List X) (x : X) → AllByRecursion P xs → find test xs ≡ Some x → P x
-find-all P test [] x all e = absurd (cc)
-find-all {X} P test (y ∷ ys) x (here, more) e = go (test y) e (find-all P test ys x more)
-  where
-    go : (b : Bool) → cond b (Some y) (find test ys) ≡ Some x → (find test ys ≡ Some x → P x) → P x
-    go true h later = let is : y ≡ x = cc in subst P is here
-    go false h later = later h
 
 path-clean : (c : Command) (files : FileMap) (word : Word) (path : List ℕ) → IsClean word.text → AllByRecursion IsClean c.dirs → path_of c files word ≡ Some path → IsClean path
 unfolding path_of
@@ -157,14 +147,6 @@ length-after : (earlier : List (List ℕ)) (founds : List Found) → length (inp
 unfolding inputs_after
 length-after earlier [] = refl
 length-after earlier (found ∷ founds) = ap suc (length-after (found.path ∷ earlier) founds)
-
-all-first : {X : Type 0} (P Q : X → Type 0) (xs : List X) → AllByRecursion (λ x. P x × Q x) xs → AllByRecursion P xs
-all-first P Q [] all = tt
-all-first P Q (x ∷ xs) (here, more) = (here.0, all-first P Q xs more)
-
-all-second : {X : Type 0} (P Q : X → Type 0) (xs : List X) → AllByRecursion (λ x. P x × Q x) xs → AllByRecursion Q xs
-all-second P Q [] all = tt
-all-second P Q (x ∷ xs) (here, more) = (here.1, all-second P Q xs more)
 
 pub inputs-of-commands-fit : InputsOfCommandsFit
 unfolding inputs_of

@@ -17,9 +17,8 @@ use Rattle.lk_model.specs.declared.commands.Mark.{Mark}
 use Rattle.lk_model.specs.declared.commands.Word.{Word}
 use Rattle.lk_recorded.specs.CommandFits.{CommandFits}
 use Rattle.lk_recorded.specs.RecordedLaws.{CommandsFit}
-use Rattle.lk_recorded.proofs.AddedOnce.{all-append}
-use Rattle.lk_recorded.proofs.CommandTexts.{GivenFits, IsClean, NamedFits, all-flat, dirs-clean, given-of-checks, options-fit, phrases-few, phrases-named}
-use Rattle.lk_recorded.proofs.RowNumbers.{all-both}
+use Rattle.lk_recorded.proofs.CommandTexts.{GivenFits, IsClean, NamedFits, dirs-clean, given-of-checks, options-fit, phrases-few, phrases-named}
+use Rattle.lk_recorded.proofs.Lists.{all-append, all-both, all-flat}
 
 -- ---- items
 

@@ -1,6 +1,6 @@
 -- The texts of a command hold no zero byte, and its numbers are small: words and values that hold one are
 -- refused.
-use Rattle.std.specs.Prelude.{◌≡◌, refl, ℕ, ◌+◌, ◌≤◌, ◌==◌, Bool, true, false, not, if◌then◌else◌, List, [], ◌∷◌, ◌++◌, bytes_eq, codes, find, flat_map, fold, length, nat_le, Option, Some, None}
+use Rattle.std.specs.Prelude.{◌≡◌, refl, ℕ, ◌+◌, ◌≤◌, ◌==◌, Bool, true, false, not, if◌then◌else◌, List, [], ◌∷◌, ◌++◌, bytes_eq, codes, find, flat_map, length, nat_le, Option, Some, None}
 use Rattle.std.specs.List.{AllByRecursion, join_with_byte, list_any}
 use Rattle.std.proofs.Common.{arith, sym, ◌∙◌, length-append}
 use Rattle.std.proofs.lemmas.Bool.{and_parts, leb-true, or_from}
@@ -12,7 +12,7 @@ use Rattle.lk_model.specs.Grammar.Meaning.{Meaningless, Path, Alone, Apart, Join
 use Rattle.lk_model.specs.Grammar.Phrase.{Wrong, Named, Flagged, Given}
 use Rattle.lk_model.specs.Grammar.Valued.{Output, Entry, Dir, Library, Interp, RunPath, Machine, Base, Patch, ThreadCount}
 use Rattle.lk_recorded.specs.Recordable.{OptionsFit, has_zero}
-use Rattle.lk_recorded.proofs.AddedOnce.{all-append}
+use Rattle.lk_recorded.proofs.Lists.{all-append, all-flat, fold-keeps}
 use Rattle.lk_recorded.proofs.NoFaults.{NoFault, all-false, none-both}
 
 -- ---- phrases
@@ -127,11 +127,6 @@ given-of-checks phrases none =
 
 -- ---- options
 
-pub fold-keeps : {S X : Type 0} (P : S → Type 0) (Q : X → Type 0) (f : S → X → S) → ((s : S) (x : X) → P s → Q x → P (f s x))
-    → (s : S) (xs : List X) → P s → AllByRecursion Q xs → P (fold f s xs)
-fold-keeps P Q f step s [] start all = start
-fold-keeps P Q f step s (x ∷ xs) start (here, more) = fold-keeps P Q f step (f s x) xs (step s x start here) more
-
 abbrev pub IsClean : List ℕ → Type 0
 IsClean text = has_zero text ≡ false
 
@@ -160,10 +155,6 @@ run-dirs-clean other fits = tt
 pub dirs-clean : (phrase : Phrase) → GivenFits phrase → AllByRecursion IsClean (dirs_of phrase)
 dirs-clean (Given number Dir at (Some value)) fits = (fits, tt)
 dirs-clean other fits = tt
-
-pub all-flat : {X Y : Type 0} (P : Y → Type 0) (Q : X → Type 0) (f : X → List Y) → ((x : X) → Q x → AllByRecursion P (f x)) → (xs : List X) → AllByRecursion Q xs → AllByRecursion P (flat_map f xs)
-all-flat P Q f each [] all = tt
-all-flat P Q f each (x ∷ xs) (here, more) = all-append P (f x) (flat_map f xs) (each x here) (all-flat P Q f each xs more)
 
 pub options-fit : (phrases : List Phrase) → AllByRecursion GivenFits phrases → OptionsFit (options_of phrases)
 unfolding options_of

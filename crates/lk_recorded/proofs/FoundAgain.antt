@@ -11,6 +11,7 @@ use Rattle.lk_model.specs.declared.layouts.PieceId.{PieceId}
 use Rattle.lk_model.specs.declared.layouts.PieceId.TheVariants as id
 use Rattle.lk_model.specs.declared.layouts.PieceRow.{PieceRow}
 use Rattle.lk_model.specs.declared.layouts.SectionRow.{SectionRow}
+use Rattle.lk_recorded.proofs.Lists.{all-imply}
 use Rattle.lk_recorded.proofs.RecordValues.{KeyAt}
 use Rattle.lk_recorded.proofs.Within.{Within, within-all}
 
@@ -98,15 +99,11 @@ abbrev pub AllApart : List KeptPiece → Type 0
 AllApart [] = Unit {0}
 AllApart (k ∷ ks) = Apart k ks × AllApart ks
 
-all-of : {X : Type 0} {P Q : X → Type 0} → ((x : X) → P x → Q x) → (xs : List X) → AllByRecursion P xs → AllByRecursion Q xs
-all-of h [] all = tt
-all-of h (x ∷ xs) (here, more) = (h x here, all-of h xs more)
-
 not-there : (sections : List SectionRow) (rows : List PieceRow) (k : KeptPiece) (ks : List KeptPiece) → Within (Matches sections) rows ks → Apart k ks → row_among rows k.piece ≡ None
 not-there sections rows k ks within apart =
     none-among rows k.piece
     (within-all (Matches sections) (λ row. same_piece row.piece k.piece ≡ false) rows ks within
-    (all-of (λ other differ row m. ap (λ p. same_piece p k.piece) m.piece ∙ same-back other.piece k.piece ∙ differ) ks apart))
+    (all-imply (λ other differ row m. ap (λ p. same_piece p k.piece) m.piece ∙ same-back other.piece k.piece ∙ differ) ks apart))
 
 passed-over : (row : PieceRow) (rows : List PieceRow) (ks : List KeptPiece) → AllByRecursion (λ (k : KeptPiece). same_piece row.piece k.piece ≡ false) ks
     → filter_map (λ (k : KeptPiece). row_among (row ∷ rows) k.piece) ks ≡ filter_map (λ (k : KeptPiece). row_among rows k.piece) ks
@@ -124,7 +121,7 @@ found-again sections [] (k ∷ ks) within (here, more) = found-again sections []
 found-again sections (row ∷ rows) (k ∷ ks) (inl (m, within)) (here, more) =
     let own : same_piece row.piece k.piece ≡ true = ap (λ p. same_piece p k.piece) m.piece ∙ same-self k.piece in
     let others : AllByRecursion (λ (other : KeptPiece). same_piece row.piece other.piece ≡ false) ks =
-    all-of (λ other differ. ap (λ p. same_piece p other.piece) m.piece ∙ differ) ks here in
+    all-imply (λ other differ. ap (λ p. same_piece p other.piece) m.piece ∙ differ) ks here in
     ap (λ b. cons_option (cond b (Some row) (row_among rows k.piece)) (filter_map (λ (other : KeptPiece). row_among (row ∷ rows) other.piece) ks)) own
     ∙ ap (λ l. row ∷ l) (passed-over row rows ks others ∙ found-again sections rows ks within more)
 found-again sections (row ∷ rows) (k ∷ ks) (inr within) (here, more) =

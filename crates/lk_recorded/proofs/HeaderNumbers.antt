@@ -13,7 +13,7 @@ use Rattle.lk_model.specs.declared.layouts.SectionRow.{SectionRow}
 use Rattle.lk_recorded.specs.Recordable.{RowFits}
 use Rattle.lk_recorded.proofs.SectionsBack.{ShdrFits}
 
-either-low : (b : Bool) (x y most : ℕ) → x < most → y < most → (if b then x else y) < most
+pub either-low : (b : Bool) (x y most : ℕ) → x < most → y < most → (if b then x else y) < most
 either-low true x y most first second = first
 either-low false x y most first second = second
 

@@ -1,6 +1,6 @@
 -- The rows of a full placement's pieces lie within the kept pieces, section rows before those of commons
 -- and copies.
-use Rattle.std.specs.Prelude.{◌≡◌, refl, ℕ, suc, ◌+◌, Bool, true, false, cond, List, [], ◌∷◌, ◌++◌, take, filter, filter_map, find, zip, Option, Some, None, option_map, length}
+use Rattle.std.specs.Prelude.{◌≡◌, refl, ℕ, suc, ◌+◌, Bool, true, false, cond, List, [], ◌∷◌, ◌++◌, take, filter_map, find, zip, Option, Some, None, option_map, length}
 use Rattle.std.specs.List.{AllByRecursion, cons_option, enumerate_from}
 use Rattle.std.proofs.Common.{arith, inl}
 use Rattle.std.proofs.lemmas.List.Elements.{filter_map-append}
@@ -22,6 +22,7 @@ use Rattle.lk_model.specs.declared.summaries.Global.{Global}
 use Rattle.lk_model.specs.declared.summaries.Winner.{Winner}
 use Rattle.lk_model.specs.declared.summaries.Winner.TheVariants as winner
 use Rattle.lk_model.proofs.KeysFound.{same_key_tells}
+use Rattle.lk_recorded.proofs.Lists.{enumerate-append}
 use Rattle.lk_recorded.proofs.RecordValues.{KeyAt}
 use Rattle.lk_recorded.proofs.Within.{Within, within-skip, within-all}
 use Rattle.lk_recorded.proofs.FoundAgain.{Matches}
@@ -67,12 +68,6 @@ rows-within rows all i (k ∷ ks) = go (numbered_row rows k.key) refl (rows-with
 
 -- ---- section rows first
 
-pub enumerate-append : {X : Type 0} (i : ℕ) (xs ys : List X) → enumerate_from i (xs ++ ys) ≡ enumerate_from i xs ++ enumerate_from (i + length xs) ys
-enumerate-append i [] ys = let e : i ≡ i + 0 = omega arith in ap (λ n. enumerate_from n ys) e
-enumerate-append i (x ∷ xs) ys =
-    let e : i + 1 + length xs ≡ i + suc (length xs) = omega arith in
-    ap (λ l. (i, x) ∷ l) (enumerate-append (i + 1) xs ys ∙ ap (λ n. enumerate_from (i + 1) xs ++ enumerate_from n ys) e)
-
 pub rows-append : (rows : List SectionRow) (all : List KeptPiece) (i : ℕ) (xs ys : List KeptPiece)
     → rows_from rows all i (xs ++ ys) ≡ rows_from rows all i xs ++ rows_from rows all (i + length xs) ys
 rows-append rows all i xs ys =
@@ -102,14 +97,6 @@ pub rows-made : (sections : List SectionRow) (input : Bool) (rows : List PieceRo
     → AllByRecursion (λ (k : KeptPiece). is_input_piece k ≡ input) ks → AllByRecursion (λ (row : PieceRow). is_made_piece row ≡ cond input false true) rows
 rows-made sections input rows ks within all =
     within-all (Matches sections) (λ row. is_made_piece row ≡ cond input false true) rows ks within (made-among sections input ks all)
-
-pub filter-none : {X : Type 0} (test : X → Bool) (xs : List X) → AllByRecursion (λ x. test x ≡ false) xs → filter test xs ≡ []
-filter-none test [] all = refl
-filter-none test (x ∷ xs) (here, more) = rw here (filter-none test xs more)
-
-pub filter-all : {X : Type 0} (test : X → Bool) (xs : List X) → AllByRecursion (λ x. test x ≡ true) xs → filter test xs ≡ xs
-filter-all test [] all = refl
-filter-all test (x ∷ xs) (here, more) = rw here (ap (λ l. x ∷ l) (filter-all test xs more))
 
 -- ---- commons and copies
 

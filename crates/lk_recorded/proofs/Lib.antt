@@ -1,3 +1,4 @@
+pub mod Lists
 pub mod Texts
 pub mod Fields
 pub mod Records
@@ -28,5 +29,6 @@ pub mod CommandInputs
 pub mod CommandTexts
 pub mod CommandItems
 pub mod AnswerRecords
+mod Examples
 pub mod NamedParts
 pub mod Recorded

@@ -23,17 +23,12 @@ use Rattle.lk_model.proofs.Multiples.{round_up_above}
 use Rattle.lk_recorded.specs.Recordable.{InputFits, OptionsFit, RowFits}
 use Rattle.lk_recorded.specs.RecordedLaws.{LimitsMakeRecordable}
 use Rattle.lk_recorded.proofs.LinkRead.{full-link, link_inputs, link_texts}
-use Rattle.lk_recorded.proofs.PlacedAgain.{all-at}
+use Rattle.lk_recorded.proofs.Lists.{all-at, all-imply, first-none}
 use Rattle.lk_recorded.proofs.RowNames.{HasPlainPieces, IsPlainKey, inputs-plain, rows-plain}
-use Rattle.lk_recorded.proofs.RowNumbers.{IsSmallRow, all-imply, small-rows}
+use Rattle.lk_recorded.proofs.RowNumbers.{IsSmallRow, small-rows}
 use Rattle.lk_recorded.proofs.TailHeaders.{first_at, headers_at, parts-are, parts-below, strings_of, three_parts}
 
 -- ---- what the limits tell
-
--- the first of two that is there
-first-none : {X : Type 0} (first second : Option X) → elim first as (λ _. Option X) [ Some s ↦ Some s | None ↦ second ] ≡ None → (first ≡ None) × (second ≡ None)
-first-none None second none = (refl, none)
-first-none (Some s) second none = absurd (cc)
 
 pub limit-tells : (which : LimitKind) (most number : ℕ) → limit_fault which most number ≡ None → number ≤ most
 limit-tells which most number none = go (nat_lt most number) refl none

@@ -1,5 +1,5 @@
 -- The fields of the records of a link fit: each number is below its width, and no text holds a zero byte.
-use Rattle.std.proofs.Common.{◌≡◌, ℕ, suc, ◌+◌, ◌^◌, ◌<◌, ◌≤◌, Bool, true, false, List, [], ◌∷◌, ◌++◌, length, refl, arith, sym, subst}
+use Rattle.std.proofs.Common.{◌≡◌, ℕ, ◌+◌, ◌^◌, ◌<◌, ◌≤◌, Bool, true, false, List, [], ◌∷◌, ◌++◌, length, refl, arith, sym, subst}
 use Rattle.std.specs.Prelude.{Option, Some, None, option_map, map, slice_get, ◌==◌, if◌then◌else◌}
 use Rattle.std.specs.List.{flat_map, AllByRecursion, enumerate_from}
 use Rattle.std.proofs.lemmas.Option.{slice_get_within}
@@ -31,6 +31,7 @@ use Rattle.lk_recorded.specs.Recordable.{GlobalFits, GroupFits, HomeFits, InputF
 use Rattle.lk_recorded.proofs.Fields.{AreFieldsFit, EachFit, are-fit-append, are-fit-flat}
 use Rattle.lk_recorded.proofs.FoundAgain.{among-has}
 use Rattle.lk_recorded.proofs.InputsRead.{AllSuit}
+use Rattle.lk_recorded.proofs.Lists.{next-at}
 use Rattle.lk_recorded.proofs.RecordValues.{KeyAt, Suits, packed}
 
 -- ---- numbers of choices
@@ -188,14 +189,6 @@ input-fit place added n i rows fits suits =
 -- each input of a link from a number on, with its record
 abbrev pub recorded_from : List ℕ → ℕ → List Input → List (ℕ × InputRecord)
 recorded_from added n inputs = enumerate_from n (map (input_record added) (enumerate_from n inputs))
-
-pub next-at : {X : Type 0} (P : ℕ → X → Type 0) (n : ℕ) (x : X) (xs : List X) → ((j : ℕ) (y : X) → slice_get (x ∷ xs) j ≡ Some y → P (n + j) y)
-    → P n x × ((j : ℕ) (y : X) → slice_get xs j ≡ Some y → P (n + 1 + j) y)
-next-at P n x xs each =
-    let here : n + 0 ≡ n = omega arith in (
-      subst (λ k. P k x) here (each 0 x refl),
-      λ j y e. let at : n + suc j ≡ n + 1 + j = omega arith in subst (λ k. P k y) at (each (suc j) y e),
-    )
 
 inputs-fit : (place : Placement) (added : List ℕ) (n : ℕ) (inputs : List Input) → PlaceFits place → AllByRecursion InputFits inputs
     → ((j : ℕ) (i : Input) → slice_get inputs j ≡ Some i → PiecesSuit place (n + j) i) → EachFit (input_fields place) (recorded_from added n inputs)

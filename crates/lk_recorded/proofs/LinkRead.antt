@@ -31,9 +31,10 @@ use Rattle.lk_recorded.proofs.AddedOnce.{IsOf, added-of, added-once}
 use Rattle.lk_recorded.proofs.Candidates.{HasDistinct, candidates, candidates-apart, candidates-input, kept-within}
 use Rattle.lk_recorded.proofs.FoundAgain.{Matches, row_among}
 use Rattle.lk_recorded.proofs.InputsRead.{inputs-read, read_of_records}
-use Rattle.lk_recorded.proofs.KeptRows.{filter-all, filter-none, names-bss, names-made, rows-append, rows-made, rows-within, rows_from}
+use Rattle.lk_recorded.proofs.KeptRows.{names-bss, names-made, rows-append, rows-made, rows-within, rows_from}
 use Rattle.lk_recorded.proofs.LinkFields.{PiecesSuit, fields-of-records-fit, inputs-suit}
-use Rattle.lk_recorded.proofs.PlacedAgain.{all-at, all-placed, found-there, piece-suits, placed-again, rows-again, rows-are}
+use Rattle.lk_recorded.proofs.Lists.{all-at, all-placed, filter-all, filter-none}
+use Rattle.lk_recorded.proofs.PlacedAgain.{found-there, piece-suits, placed-again, rows-again, rows-are}
 use Rattle.lk_recorded.proofs.ReadOrder.{order-again, read_from}
 use Rattle.lk_recorded.proofs.RecordValues.{Suits}
 use Rattle.lk_recorded.proofs.Within.{Within, within-through}

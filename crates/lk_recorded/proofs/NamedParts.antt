@@ -16,8 +16,7 @@ use Rattle.lk_model.specs.Views.{Elf}
 use Rattle.lk_model.specs.declared.layouts.Placement.{Placement}
 use Rattle.lk_model.specs.declared.layouts.SectionRow.{SectionRow}
 use Rattle.lk_recorded.specs.Recordable.{RowFits}
-use Rattle.lk_recorded.proofs.KeptRows.{enumerate-append}
-use Rattle.lk_recorded.proofs.LinkFields.{next-at}
+use Rattle.lk_recorded.proofs.Lists.{enumerate-append, get-behind, next-at}
 use Rattle.lk_recorded.proofs.SectionsBack.{is_named_among, name_among}
 use Rattle.lk_recorded.proofs.TailHeaders.{AllNamed, all-named, first_at, inputs_name, link_shdrs, named-first, named-second, names_of, own_names, part_shdr, second_at, strings_name, tail_shdrs, texts_name, third_at}
 use Rattle.lk_recorded.proofs.Texts.{name-found}
@@ -162,12 +161,6 @@ only-texts elf place strings n m k are fits =
     ∙ ap (λ l. l ++ filter (is_told strings texts_name) (enumerate_from i (tail_shdrs offset (tail_start place) n m k))) rows ∙ tails)
 
 -- ---- the section of names
-
-get-behind : {X : Type 0} (xs ys : List X) (j : ℕ) → slice_get (xs ++ ys) (length xs + j) ≡ slice_get ys j
-get-behind [] ys j = let e : 0 + j ≡ j = omega arith in ap (slice_get ys) e
-get-behind (x ∷ xs) ys j =
-    let e : suc (length xs) + j ≡ suc (length xs + j) = omega arith in
-    ap (slice_get (x ∷ xs ++ ys)) e ∙ get-behind xs ys j
 
 pub strings-there : (place : Placement) (offset : List ℕ → ℕ) (n m k : ℕ)
     → slice_get (link_shdrs place offset n m k) (suc (length (map (row_header place offset) place.sections) + 2))

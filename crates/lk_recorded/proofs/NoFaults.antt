@@ -1,7 +1,6 @@
 -- Where a list of checks finds no fault, no condition of it holds, nor of any part of it.
 use Rattle.std.specs.Prelude.{◌≡◌, refl, Bool, true, false, List, [], ◌∷◌, ◌++◌, flat_map, None}
-use Rattle.std.specs.List.{AllByRecursion, list_any}
-use Rattle.std.proofs.lemmas.Bool.{or_parts}
+use Rattle.std.specs.List.{AllByRecursion}
 use Rattle.lk_model.specs.Checks.{first_fault}
 
 abbrev pub NoFault : {F : Type 0} → List (Bool × F) → Type 0
@@ -30,9 +29,3 @@ all-false [] none = tt
 all-false ((b, f) ∷ checks) none =
     let step = after-first b f checks none in
     (step.0, all-false checks step.1)
-
-pub none-any : {X : Type 0} (test : X → Bool) (xs : List X) → list_any test xs ≡ false → AllByRecursion (λ x. test x ≡ false) xs
-none-any test [] none = tt
-none-any test (x ∷ xs) none =
-    let both = or_parts (test x) (list_any test xs) none in
-    (both.0, none-any test xs both.1)

@@ -21,8 +21,9 @@ use Rattle.lk_model.specs.declared.summaries.Home.TheVariants as home
 use Rattle.lk_model.specs.declared.summaries.PieceInfo.{PieceInfo}
 use Rattle.lk_model.proofs.Rising.{all_filter}
 use Rattle.lk_recorded.specs.Recordable.{GlobalFits, GroupFits, HomeFits, PieceFits, SummaryFits, has_zero, numbers_of}
-use Rattle.lk_recorded.proofs.ByteNumbers.{IsLowElf, IsLowShdr, IsLowSym, all-drop, all-found, all-numbered, all-range, length-drop-most, length-enumerated, length-found, length-mapped, length-passing, num-below, counted}
-use Rattle.lk_recorded.proofs.ReadNames.{and-then, section-name-clean, symbol-name-clean}
+use Rattle.lk_recorded.proofs.ByteNumbers.{IsLowElf, IsLowShdr, IsLowSym, num-below, counted}
+use Rattle.lk_recorded.proofs.Lists.{all-drop, all-found, all-numbered, all-range, and-then, found-in-map, length-drop-most, length-enumerated, length-found, length-mapped, length-passing}
+use Rattle.lk_recorded.proofs.ReadNames.{section-name-clean, symbol-name-clean}
 
 -- ---- pieces
 
@@ -171,10 +172,6 @@ global-fits k s name few low clean =
       value = low.value;
       size = low.size;
     }
-
-pub found-in-map : {X Y : Type 0} (f : X → Y) (o : Option X) (y : Y) → option_map f o ≡ Some y → (x : X) × ((o ≡ Some x) × (f x ≡ y))
-found-in-map f None y e = absurd (cc)
-found-in-map f (Some x) y e = (x, (refl, (let is : f x ≡ y = cc in is)))
 
 global-found : (elf : Elf) (k : ℕ) (s : Sym) (g : Global) → k < 2 ^ 32 → IsLowSym s → option_map (global_with k s) (symbol_name elf k) ≡ Some g → GlobalFits g
 global-found elf k s g few low e =

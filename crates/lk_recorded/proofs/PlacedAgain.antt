@@ -22,24 +22,16 @@ use Rattle.lk_model.specs.declared.layouts.SectionRow.{SectionRow}
 use Rattle.lk_model.specs.declared.summaries.InputSummary.{InputSummary}
 use Rattle.lk_model.specs.declared.summaries.PieceInfo.{PieceInfo}
 use Rattle.lk_recorded.specs.Recordable.{PieceFits, numbers_of}
-use Rattle.lk_recorded.proofs.AddedOnce.{IsOf, all-append}
+use Rattle.lk_recorded.proofs.AddedOnce.{IsOf}
 use Rattle.lk_recorded.proofs.Candidates.{candidates, sections_of}
 use Rattle.lk_recorded.proofs.FoundAgain.{Matches, AllApart, among-first, among-has, found-again, row_among}
 use Rattle.lk_recorded.proofs.InputsRead.{read_in, read_of}
+use Rattle.lk_recorded.proofs.Lists.{all-append, all-at}
 use Rattle.lk_recorded.proofs.ReadOrder.{read_from, read-at}
 use Rattle.lk_recorded.proofs.RecordValues.{Suits}
 use Rattle.lk_recorded.proofs.Within.{Within, within-all}
 
--- ---- items by their places
-
-pub all-at : {X : Type 0} (P : X → Type 0) (xs : List X) (k : ℕ) (x : X) → AllByRecursion P xs → slice_get xs k ≡ Some x → P x
-all-at P [] k x all e = absurd (cc)
-all-at P (y ∷ ys) zero x (here, more) e = let is : y ≡ x = cc in subst P is here
-all-at P (y ∷ ys) (suc k) x (here, more) e = all-at P ys k x more e
-
-pub all-placed : {X : Type 0} (P : X → Type 0) (xs : List X) → ((k : ℕ) (x : X) → slice_get xs k ≡ Some x → P x) → AllByRecursion P xs
-all-placed P [] each = tt
-all-placed P (x ∷ xs) each = (each 0 x refl, all-placed P xs (λ k y e. each (suc k) y e))
+-- ---- pieces by their numbers
 
 -- pieces with different numbers, by their numbers
 not-same : (n : ℕ) (ps : List PieceInfo) (k : ℕ) (p : PieceInfo) → AllByRecursion (λ s. nat_eq n s ≡ false) (numbers_of ps) → slice_get ps k ≡ Some p → nat_eq n p.section ≡ false

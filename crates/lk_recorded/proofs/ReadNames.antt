@@ -1,5 +1,5 @@
 -- A name that is read of a file holds no zero byte: it ends at the first one (gABI "String Table").
-use Rattle.std.specs.Prelude.{◌≡◌, refl, ℕ, suc, nat_eq, ◌+◌, ◌==◌, Bool, true, false, cond, not, List, [], ◌∷◌, drop, take, Option, Some, None, option_and_then, slice_get}
+use Rattle.std.specs.Prelude.{◌≡◌, refl, ℕ, suc, nat_eq, ◌+◌, ◌==◌, Bool, true, false, cond, not, List, [], ◌∷◌, drop, take, Some, option_and_then, slice_get}
 use Rattle.std.specs.Bool.{then_some}
 use Rattle.std.specs.List.{list_any, position_or_len}
 use Rattle.std.proofs.Common.{arith, subst, ap, ◌∙◌, ◌||◌}
@@ -7,6 +7,7 @@ use Rattle.lk_elf.specs.declared.section_header.Shdr.{Shdr}
 use Rattle.lk_model.specs.Elf.{bytes_under, name_at, name_of_symbol, section_at, section_name, symbol_name, symbol_table, text_in}
 use Rattle.lk_model.specs.Views.{Elf}
 use Rattle.lk_recorded.specs.Recordable.{has_zero}
+use Rattle.lk_recorded.proofs.Lists.{and-then}
 
 -- the part before the first zero holds none
 no-zero-step : (t : Bool) (n b : ℕ) (bs : List ℕ) → nat_eq b 0 ≡ t → list_any (λ c. c == 0) (take n bs) ≡ false → list_any (λ c. c == 0) (take (cond (not t) (1 + n) 0) (b ∷ bs)) ≡ false
@@ -18,11 +19,6 @@ no-zero-step false n b bs e h =
 no-zero-before : (bytes : List ℕ) → list_any (λ b. b == 0) (take (position_or_len (λ b. b == 0) bytes) bytes) ≡ false
 no-zero-before [] = refl
 no-zero-before (b ∷ bs) = no-zero-step (nat_eq b 0) (position_or_len (λ c. c == 0) bs) b bs refl (no-zero-before bs)
-
--- what a chain of look-ups found
-pub and-then : {X Y : Type 0} (o : Option X) (f : X → Option Y) (y : Y) → option_and_then f o ≡ Some y → (x : X) × ((o ≡ Some x) × (f x ≡ Some y))
-and-then None f y e = absurd (cc)
-and-then (Some x) f y e = (x, (refl, e))
 
 -- a text that is read holds no zero
 pub text-clean : (bytes t : List ℕ) → text_in bytes ≡ Some t → has_zero t ≡ false

@@ -23,10 +23,11 @@ use Rattle.lk_model.specs.declared.summaries.PieceInfo.{PieceInfo}
 use Rattle.lk_model.proofs.InOrder.{full_keys}
 use Rattle.lk_model.proofs.Rising.{all_filter, all_of_map}
 use Rattle.lk_recorded.specs.Recordable.{InputFits, PieceFits, has_zero, is_record_name}
-use Rattle.lk_recorded.proofs.AddedOnce.{IsOf, added-of, all-append}
+use Rattle.lk_recorded.proofs.AddedOnce.{IsOf, added-of}
 use Rattle.lk_recorded.proofs.Candidates.{candidates, kept-within, sections_of}
 use Rattle.lk_recorded.proofs.LinkRead.{IsFull}
-use Rattle.lk_recorded.proofs.PlacedAgain.{all-at, all-placed, found-there}
+use Rattle.lk_recorded.proofs.Lists.{all-append, all-at, all-mapped, all-placed}
+use Rattle.lk_recorded.proofs.PlacedAgain.{found-there}
 use Rattle.lk_recorded.proofs.Within.{Same, within-all}
 
 -- a name that is neither cut short nor that of a section of records
@@ -97,10 +98,6 @@ kept-plain r place full all =
     (all-append (λ (k : KeptPiece). IsPlainKey k.key) (kept_sections added) full.names sections (bss-plain full.names full.bss))
 
 -- ---- the keys of output sections
-
-all-mapped : {X Y : Type 0} (f : X → Y) (P : Y → Type 0) (xs : List X) → AllByRecursion (λ x. P (f x)) xs → AllByRecursion P (map f xs)
-all-mapped f P [] all = tt
-all-mapped f P (x ∷ xs) (here, more) = (here, all-mapped f P xs more)
 
 once-plain : (seen keys : List SectionKey) → AllByRecursion IsPlainKey seen → AllByRecursion IsPlainKey keys
     → AllByRecursion IsPlainKey (fold (λ seen key. if list_any (same_key key) seen then seen else seen ++ key ∷ []) seen keys)

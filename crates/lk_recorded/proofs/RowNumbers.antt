@@ -23,36 +23,9 @@ use Rattle.lk_model.proofs.Rising.{all_filter, all_of_map, all_pass, below_great
 use Rattle.lk_model.proofs.RowsApart.{Aligned}
 use Rattle.lk_model.proofs.RowsTold.{full_sizes}
 use Rattle.lk_model.proofs.TablesThere.{full_tables}
-use Rattle.lk_recorded.proofs.AddedOnce.{all-append}
+use Rattle.lk_recorded.proofs.Lists.{all-append, all-both, all-imply, any-one, unfiltered}
 
--- ---- lists
-
-pub all-both : {X : Type 0} (P Q : X → Type 0) (xs : List X) → AllByRecursion P xs → AllByRecursion Q xs → AllByRecursion (λ x. P x × Q x) xs
-all-both P Q [] first second = tt
-all-both P Q (x ∷ xs) (here, more) (own, others) = ((here, own), all-both P Q xs more others)
-
-pub all-imply : {X : Type 0} {P Q : X → Type 0} → ((x : X) → P x → Q x) → (xs : List X) → AllByRecursion P xs → AllByRecursion Q xs
-all-imply h [] all = tt
-all-imply h (x ∷ xs) (here, more) = (h x here, all-imply h xs more)
-
--- what holds of the items that pass a test
-unfiltered : {X : Type 0} (P : X → Type 0) (test : X → Bool) (xs : List X) → AllByRecursion P (filter test xs) → AllByRecursion (λ x. test x ≡ true → P x) xs
-unfiltered P test [] all = tt
-unfiltered {X} P test (x ∷ xs) all = go (test x) refl all (unfiltered P test xs)
-  where
-    go : (b : Bool) → test x ≡ b → AllByRecursion P (filter test (x ∷ xs)) → (AllByRecursion P (filter test xs) → AllByRecursion (λ y. test y ≡ true → P y) xs)
-        → (test x ≡ true → P x) × AllByRecursion (λ y. test y ≡ true → P y) xs
-    go true e h later = let own : AllByRecursion P (x ∷ filter test xs) = rw e at h in (λ t. own.0, later own.1)
-    go false e h later = let rest : AllByRecursion P (filter test xs) = rw e at h in (λ t. absurd (let no : false ≡ true = sym e ∙ t in cc), later rest)
-
--- an item that passes
-any-one : {X : Type 0} (P : X → Type 0) (test : X → Bool) (xs : List X) → AllByRecursion P xs → list_any test xs ≡ true → (x : X) × ((test x ≡ true) × P x)
-any-one P test [] all there = absurd (cc)
-any-one {X} P test (x ∷ xs) (here, more) there = go (test x) refl there (any-one P test xs more)
-  where
-    go : (b : Bool) → test x ≡ b → (b || list_any test xs) ≡ true → (list_any test xs ≡ true → (y : X) × ((test y ≡ true) × P y)) → (y : X) × ((test y ≡ true) × P y)
-    go true e h later = (x, (e, here))
-    go false e h later = later h
+-- ---- the greatest of some numbers
 
 -- each number of a list is at most the greatest of them
 below-all : (f : SectionRow → ℕ) (test : SectionRow → Bool) (rows : List SectionRow) → AllByRecursion (λ (row : SectionRow). test row ≡ true → f row ≤ greatest (map f (filter test rows))) rows

@@ -15,16 +15,12 @@ use Rattle.lk_model.specs.declared.summaries.Global.{Global}
 use Rattle.lk_model.specs.declared.summaries.Home.TheVariants as home
 use Rattle.lk_model.proofs.Rising.{all_filter}
 use Rattle.lk_recorded.specs.Recordable.{GlobalFits, HomeFits, SummaryFits, has_zero}
-use Rattle.lk_recorded.proofs.AddedOnce.{all-append}
-use Rattle.lk_recorded.proofs.ByteNumbers.{IsLowElf, IsLowSym, all-drop, all-found, all-numbered, length-drop-most, length-enumerated, length-found, length-passing, symbols-few, symbols-low}
-use Rattle.lk_recorded.proofs.ObjectFits.{found-in-map}
-use Rattle.lk_recorded.proofs.ReadNames.{and-then, name-clean}
+use Rattle.lk_recorded.proofs.ByteNumbers.{IsLowElf, IsLowSym, symbols-few, symbols-low}
+use Rattle.lk_recorded.proofs.HeaderNumbers.{either-low}
+use Rattle.lk_recorded.proofs.Lists.{all-append, all-drop, all-found, all-numbered, and-then, found-in-map, length-drop-most, length-enumerated, length-found, length-passing}
+use Rattle.lk_recorded.proofs.ReadNames.{name-clean}
 
 -- ---- symbols
-
-either-low : (b : Bool) (x y most : ℕ) → x < most → y < most → (if b then x else y) < most
-either-low true x y most first second = first
-either-low false x y most first second = second
 
 home-fits : (n : ℕ) → HomeFits (shared_home n)
 home-fits n = go (n == 0)

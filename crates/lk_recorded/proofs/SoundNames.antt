@@ -16,8 +16,8 @@ use Rattle.lk_model.specs.Pieces.{is_piece, is_table_name, is_tail_name, tail_na
 use Rattle.lk_model.specs.Views.{Elf}
 use Rattle.lk_model.specs.declared.summaries.PieceInfo.{PieceInfo}
 use Rattle.lk_recorded.specs.Recordable.{is_record_name}
-use Rattle.lk_recorded.proofs.ByteNumbers.{all-found}
-use Rattle.lk_recorded.proofs.NoFaults.{NoFault, all-false, none-any, none-both, none-each}
+use Rattle.lk_recorded.proofs.Lists.{all-found, none-any}
+use Rattle.lk_recorded.proofs.NoFaults.{NoFault, all-false, none-both, none-each}
 use Rattle.lk_recorded.proofs.ObjectFits.{IsPieceOf, found_piece, piece-found}
 
 -- ---- the names of sections

@@ -17,9 +17,9 @@ use Rattle.lk_model.specs.declared.layouts.Placement.{Placement}
 use Rattle.lk_model.specs.declared.layouts.SectionRow.{SectionRow}
 use Rattle.lk_model.proofs.Multiples.{round_up_above}
 use Rattle.lk_recorded.specs.Recordable.{RowFits}
-use Rattle.lk_recorded.proofs.AddedOnce.{all-append}
 use Rattle.lk_recorded.proofs.HeaderNumbers.{null-fits, row-shdr-fits}
 use Rattle.lk_recorded.proofs.LinkRead.{link_inputs, link_texts}
+use Rattle.lk_recorded.proofs.Lists.{all-append}
 use Rattle.lk_recorded.proofs.SectionsBack.{ShdrFits}
 use Rattle.lk_recorded.proofs.Texts.{in-table, offset-below}
 
