@@ -1,5 +1,5 @@
 -- The faults of the rows, one after another, are the model's.
-use Rattle.std.proofs.Common.{◌≡◌, refl, sym, ap, ◌∙◌, ℕ, zero, suc, ◌+◌, add-one, ◌==◌, Bool, true, false, cond, List, [], ◌∷◌, ◌++◌, map, flat_map, filter, zip, drop, get_or, Option, None, Some, option_map, option_and_then, slice_get}
+use Rattle.std.proofs.Common.{◌≡◌, refl, sym, ap, ◌∙◌, ℕ, zero, suc, ◌+◌, add-one, Bool, true, false, cond, List, [], ◌∷◌, ◌++◌, map, flat_map, filter, zip, drop, Option, None, Some, option_map, option_and_then, slice_get}
 use Rattle.std.proofs.lemmas.List.{append_assoc}
 use Rattle.std.proofs.lemmas.Option.{slice_get-map}
 use Rattle.lk_report.specs.declared.faults.Fault.{Fault}
@@ -7,11 +7,11 @@ use Rattle.lk_report.specs.declared.faults.Fault.TheVariants as fault
 use Rattle.lk_model.specs.declared.summaries.Contribution.{Contribution}
 use Rattle.lk_model.specs.declared.summaries.Contributions.{Contributions}
 use Rattle.lk_model.specs.declared.summaries.Winner.{Winner}
-use Rattle.lk_model.specs.Finding.{Found, number_among, path_in, winner_in}
+use Rattle.lk_model.specs.Finding.{Found, number_among, path_in}
 use Rattle.lk_model.specs.ResolveFaults.{doubled, faults_of, has_entry, multiple_definitions, tls_mismatches}
 use Rattle.lk_model.specs.Symbols.{is_strong_definition}
 use Rattle.lk_model.specs.Winners.{is_in_object}
-use Rattle.lk_resolve.specs.RowFaults.{doubled_at, doubled_in, doubled_on, entry_faults, faults_in, first_with, is_some_in_object, mismatched_in, of_row}
+use Rattle.lk_resolve.specs.RowFaults.{doubled_in, doubled_on, faults_in, is_some_in_object, mismatched_in, of_row}
 use Rattle.lk_symtab.specs.NameRows.{NameRow, all_symbols, number_of, row_winner, symbols_in}
 
 -- what the table tells of a row that is there

@@ -1,5 +1,5 @@
 -- What an input that was claimed and added makes of what is held, and when it is wanted.
-use Rattle.std.proofs.Common.{◌≡◌, sym, ap, ◌∙◌, ℕ, Bool, List, fold}
+use Rattle.std.proofs.Common.{◌≡◌, ap, ◌∙◌, ℕ, Bool, List, fold}
 use Rattle.lk_comdat.specs.Claims.{signatures_of}
 use Rattle.lk_comdat.specs.ClaimLaws.{with_claim}
 use Rattle.lk_model.specs.declared.summaries.Global.{Global}

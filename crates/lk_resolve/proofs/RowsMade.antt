@@ -1,15 +1,13 @@
 -- The rows that the linker makes, one after another, and what they mean to the model.
-use Rattle.std.proofs.Common.{◌≡◌, refl, sym, ap, ◌∙◌, arith, ℕ, zero, suc, ◌+◌, ◌≤◌, ◌<◌, add-one, nat_eq, Bool, true, false, cond, ◌||◌, ◌&&◌, List, [], ◌∷◌, ◌++◌, map, length, drop, codes, Option, None, Some, option_map, slice_get}
+use Rattle.std.proofs.Common.{◌≡◌, refl, sym, ap, ◌∙◌, arith, ℕ, zero, suc, ◌+◌, ◌≤◌, add-one, nat_eq, Bool, true, false, cond, ◌||◌, ◌&&◌, List, [], ◌∷◌, ◌++◌, map, length, drop, codes, Option, None, Some, option_map, slice_get}
 use Rattle.std.specs.Cmp.Lexicographic.{nat_list_eq_equiv}
-use Rattle.std.specs.List.{list_any, starts_with}
+use Rattle.std.specs.List.{starts_with}
 use Rattle.std.specs.Str.{bytes_eq}
 use Rattle.std.proofs.lemmas.List.Folds.{list_any-append}
 use Rattle.lk_model.specs.declared.summaries.Contributions.{Contributions}
-use Rattle.lk_model.specs.declared.summaries.Winner.{Winner}
 use Rattle.lk_model.specs.Finding.{winners_of}
 use Rattle.lk_model.specs.MadeNames.{always_made, is_bound, is_c_identifier, is_made, is_made_name}
 use Rattle.lk_model.specs.Numbered.{distinct, is_text_in}
-use Rattle.lk_model.specs.Symbols.{is_object_reference}
 use Rattle.lk_model.specs.Winners.{visibility_of, winner_of}
 use Rattle.lk_resolve.specs.MadeRows.{array_names, end_names, is_bound_in, is_made_name_in, is_row_made, made_before, rows_made, table_names, with_making}
 use Rattle.lk_resolve.proofs.ListSets.{any-alike, any-distinct}

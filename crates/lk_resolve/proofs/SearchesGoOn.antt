@@ -5,7 +5,7 @@ use Rattle.std.specs.List.{list_any}
 use Rattle.std.proofs.lemmas.List.{append-nil, append_assoc}
 use Rattle.lk_model.specs.Adding.{is_wanted_member, with_one}
 use Rattle.lk_model.specs.Numbered.{Numbered}
-use Rattle.lk_model.specs.Queues.{listed_of, listed_within, next, turn}
+use Rattle.lk_model.specs.Queues.{listed_of, listed_within, turn}
 use Rattle.lk_model.proofs.Queues.{listed_of-ends, listed_of-skips, listed_of-takes}
 use Rattle.lk_resolve.specs.Searches.{searched}
 use Rattle.lk_resolve.specs.States.{State, state_of, with_input}

@@ -1,5 +1,5 @@
 -- The state of a list of inputs goes on by one more input.
-use Rattle.std.proofs.Common.{◌≡◌, refl, sym, ap, ◌∙◌, ℕ, Bool, ◌||◌, List, [], ◌∷◌, ◌++◌, map, flat_map, filter, fold}
+use Rattle.std.proofs.Common.{◌≡◌, sym, ap, ◌∙◌, ℕ, ◌||◌, List, [], ◌∷◌, ◌++◌, map, flat_map, filter, fold}
 use Rattle.std.specs.Str.{bytes_eq}
 use Rattle.std.proofs.lemmas.Grind.{flat_map-append, fold-append}
 use Rattle.std.proofs.lemmas.List.{append-nil, map-append}
@@ -8,7 +8,6 @@ use Rattle.std.proofs.lemmas.List.Folds.{list_any-append}
 use Rattle.lk_comdat.specs.Claims.{signatures_of}
 use Rattle.lk_comdat.specs.ClaimLaws.{claims_after, with_claim}
 use Rattle.lk_model.specs.declared.summaries.Contribution.{Contribution}
-use Rattle.lk_model.specs.Adding.{numbers_in}
 use Rattle.lk_model.specs.Finding.{is_dynamic}
 use Rattle.lk_model.specs.Groups.{claimed_by, is_left}
 use Rattle.lk_model.specs.KeptPieces.{is_loaded, kept_sections, loaded_names, pieces_left}
@@ -18,7 +17,7 @@ use Rattle.lk_model.specs.Views.{KeptPiece}
 use Rattle.lk_model.proofs.Finding.{kept_sections-push, symbols_of-push}
 use Rattle.lk_resolve.specs.declared.section_places.SectionPlace.{SectionPlace}
 use Rattle.lk_resolve.specs.LeftSections.{is_same_place, left_in, loaded_in, place_of, places_in, symbols_in}
-use Rattle.lk_resolve.specs.States.{State, asked_by, asked_by_all, is_shared, state_of, with_input}
+use Rattle.lk_resolve.specs.States.{asked_by, asked_by_all, is_shared, state_of, with_input}
 use Rattle.lk_resolve.proofs.ListSets.{or_false}
 use Rattle.lk_resolve.proofs.SectionsLeft.{left_is, loaded-left, places-left, symbols-left}
 use Rattle.lk_symtab.specs.NameRows.{NameRow}

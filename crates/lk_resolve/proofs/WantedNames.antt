@@ -1,6 +1,6 @@
 -- A name is wanted by the table of the names where it is wanted by their symbols, and a member where it is
 -- by the model.
-use Rattle.std.proofs.Common.{◌≡◌, refl, sym, ap, ◌∙◌, arith, ℕ, zero, suc, ◌<◌, ◌≤◌, nat_lt, ◌==◌, Bool, true, false, cond, not, ◌||◌, ◌&&◌, List, [], ◌∷◌, map, filter, find, length, Option, Some, None, is_some, option_map, option_and_then, slice_get, position, ltb}
+use Rattle.std.proofs.Common.{◌≡◌, refl, sym, ap, ◌∙◌, ℕ, nat_lt, ◌==◌, Bool, true, false, cond, not, ◌||◌, ◌&&◌, List, [], ◌∷◌, map, filter, find, length, Option, Some, None, is_some, option_map, option_and_then, slice_get, position}
 use Rattle.std.specs.Cmp.Lexicographic.{bytes_decides, nat_list_eq_equiv}
 use Rattle.std.specs.List.{list_any, position_or_len}
 use Rattle.std.specs.Str.{bytes_eq}
@@ -29,7 +29,7 @@ use Rattle.lk_resolve.specs.States.{asked_by_all, state_of}
 use Rattle.lk_resolve.specs.Wanted.{is_home_placed, is_placed_in, is_row_wanted, places_wanted, defines_wanted, wants, wants_name, wants_row}
 use Rattle.lk_resolve.proofs.ListSets.{any-alike, any-or}
 use Rattle.lk_resolve.proofs.SectionsLeft.{left_is}
-use Rattle.lk_symtab.specs.NameRows.{NameRow, all_symbols, number_of, row_needed, row_winner, symbols_in}
+use Rattle.lk_symtab.specs.NameRows.{NameRow, all_symbols, number_of, row_needed, row_winner}
 use Rattle.lk_symtab.specs.SymbolLaws.{plain_row}
 use Rattle.lk_symtab.proofs.SymbolsFound.{names_have}
 

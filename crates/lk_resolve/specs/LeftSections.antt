@@ -1,6 +1,6 @@
 -- Which sections of an input a link keeps (gABI "Section Groups"), as a list of numbers: those of its
 -- pieces that no group drops, each once; and what of the input counts with them.
-use Rattle.std.specs.Prelude.{ℕ, nat_eq, ◌==◌, Bool, true, false, ◌&&◌, not, cond, List, [], ◌∷◌, map, filter}
+use Rattle.std.specs.Prelude.{ℕ, nat_eq, ◌==◌, Bool, ◌&&◌, not, cond, List, [], ◌∷◌, map, filter}
 use Rattle.lk_model.specs.declared.layouts.PieceId.TheVariants as piece
 use Rattle.lk_model.specs.declared.summaries.Contribution.{Contribution}
 use Rattle.lk_model.specs.declared.summaries.Global.{Global}

@@ -5,7 +5,7 @@ use Rattle.std.specs.List.{list_any, starts_with}
 use Rattle.std.specs.Str.{bytes_eq}
 use Rattle.lk_model.specs.MadeNames.{always_made, dynamic_name, is_c_identifier}
 use Rattle.lk_model.specs.Numbered.{is_text_in}
-use Rattle.lk_symtab.specs.NameRows.{NameRow, made_row, row_referred, with_row}
+use Rattle.lk_symtab.specs.NameRows.{NameRow, made_row, row_referred}
 
 -- the names that every link makes, in three parts: of tables and the file, of arrays, and of ends
 abbrev pub table_names : List (List ℕ)

@@ -1,5 +1,5 @@
 -- This project's own: the faults that the names' rows have, name by name and contribution by contribution.
-use Rattle.std.specs.Prelude.{ℕ, ◌==◌, Bool, false, cond, List, [], ◌∷◌, ◌++◌, flat_map, get_or, Option, Some, None, option_map, option_and_then, slice_get}
+use Rattle.std.specs.Prelude.{ℕ, ◌==◌, Bool, false, cond, List, [], ◌∷◌, ◌++◌, flat_map, get_or, Option, Some, None, option_and_then, slice_get}
 use Rattle.std.specs.Option.{option_or}
 use Rattle.lk_report.specs.declared.faults.Fault.{Fault}
 use Rattle.lk_report.specs.declared.faults.Fault.TheVariants as fault

@@ -2,7 +2,6 @@
 -- inputs decide.
 use Rattle.std.specs.Prelude.{◌≡◌, ℕ, ◌<◌, ◌≤◌, ◌^◌, Bool, List, [], length, map, Result, Ok, Err}
 use Rattle.std.specs.List.{list_any}
-use Rattle.lk_report.specs.declared.faults.Fault.{Fault}
 use Rattle.lk_report.specs.declared.statuses.LimitFault.{LimitFault}
 use Rattle.lk_report.specs.declared.statuses.LimitKind.TheVariants as limit
 use Rattle.lk_model.specs.Finding.{Found, is_kept_in}

@@ -1,12 +1,14 @@
-//! Small links by hand: a lib group whose members want each other, groups of one signature, and two strong
-//! definitions of one name.
+//! Small links by hand: lib groups whose members are wanted or not, groups of one signature, two strong
+//! definitions of one name, and a weak one against common blocks.
 
 use crate::resolution::Resolution;
 use crate::resolver::Resolver;
 use crate::settle_faults::SettleFault;
+use lk_elf::numbers::{STB_GLOBAL, STB_WEAK};
 use lk_model::layouts::{Class, SectionKey};
 use lk_model::summaries::{
-    Global as Symbol, GlobalList, Group, Home, InputSummary, Kind, PieceInfo, SummaryList,
+    Global as Symbol, GlobalList, Group, Home, InputSummary, Kind, PieceInfo, PieceInfoList,
+    SummaryList, Winner,
 };
 use lk_report::{Fault, FaultList, List, Name, NameList, NoMemory};
 use std::alloc::Global;
@@ -17,7 +19,7 @@ fn symbol(alloc: Global, number: u32, name: &[u8], home: Home) -> Result<Symbol,
     Ok(Symbol {
         symbol: number,
         name: Name::from_slice(alloc, name)?,
-        binding: 1,
+        binding: u32::from(STB_GLOBAL),
         code: 0,
         visibility: 0,
         home,
@@ -64,18 +66,40 @@ fn symbols(alloc: Global, defined: &[u8], wanted: &[u8]) -> Result<GlobalList, N
     both(alloc, defined, wanted)
 }
 
-/// An object with one section, number 1, in which it defines a name, and with a reference to another.
-fn object(alloc: Global, defined: &[u8], wanted: &[u8]) -> Result<InputSummary, NoMemory> {
-    let pieces = only(alloc, code(alloc)?)?;
-    let globals = symbols(alloc, defined, wanted)?;
-    Ok(InputSummary {
+/// An object of these sections and symbols.
+fn object_of(alloc: Global, pieces: PieceInfoList, globals: GlobalList) -> InputSummary {
+    InputSummary {
         kind: Kind::Object,
         soname: Name::from_vec(Vec::new(alloc)),
         exec_stack: false,
         pieces,
         globals,
         groups: List::new(alloc),
-    })
+    }
+}
+
+/// An object with one section, number 1, in which it defines a name, and with a reference to another.
+fn object(alloc: Global, defined: &[u8], wanted: &[u8]) -> Result<InputSummary, NoMemory> {
+    let pieces = only(alloc, code(alloc)?)?;
+    let globals = symbols(alloc, defined, wanted)?;
+    Ok(object_of(alloc, pieces, globals))
+}
+
+/// An object that defines the entry, and has a weak symbol, number 3, of a name.
+fn with_weak(alloc: Global, name: &[u8], home: Home) -> Result<InputSummary, NoMemory> {
+    let mut object = object(alloc, b"_start", b"_start")?;
+    let mut weak = symbol(alloc, 3, name, home)?;
+    weak.binding = u32::from(STB_WEAK);
+    object.globals.push(weak)?;
+    Ok(object)
+}
+
+/// An object with nothing but a common block of a name.
+fn common(alloc: Global, name: &[u8], size: u64, align: u64) -> Result<InputSummary, NoMemory> {
+    let mut block = symbol(alloc, 1, name, Home::Common)?;
+    block.size = size;
+    block.value = align;
+    Ok(object_of(alloc, List::new(alloc), only(alloc, block)?))
 }
 
 /// An object that defines the entry in a section of a group.
@@ -129,6 +153,36 @@ fn settled(resolver: Resolver) -> Result<Resolution, NoMemory> {
     }
 }
 
+/// What is settled of an object, and of a lib group of the two members after it.
+fn with_members(alloc: Global, object: &InputSummary) -> Result<Resolution, NoMemory> {
+    let mut resolver = resolver(alloc)?;
+    resolver.add_input(0, object)?;
+    resolver.add_group(1, &members(alloc)?)?;
+    settled(resolver)
+}
+
+/// What is settled of three objects.
+fn with_three(alloc: Global, objects: &[InputSummary; 3]) -> Result<Resolution, NoMemory> {
+    let mut resolver = resolver(alloc)?;
+    for (number, object) in objects.iter().enumerate() {
+        resolver.add_input(number as u32, object)?;
+    }
+    settled(resolver)
+}
+
+/// What a name means, where it is one of the names.
+fn meaning(
+    alloc: Global,
+    resolution: &Resolution,
+    name: &[u8],
+) -> Result<Option<Winner>, NoMemory> {
+    let names = resolution.names();
+    match names.find(&Name::from_slice(alloc, name)?) {
+        Some(number) => Ok(Some(names.winner(number))),
+        None => Ok(None),
+    }
+}
+
 fn faults(resolver: Resolver) -> Result<FaultList, NoMemory> {
     match resolver.settle() {
         Err(SettleFault::Faults(faults)) => Ok(faults),
@@ -139,10 +193,7 @@ fn faults(resolver: Resolver) -> Result<FaultList, NoMemory> {
 #[test]
 fn a_member_is_added_once_its_name_is_wanted(rt: HostRuntime) -> Result<(), Fail> {
     let alloc = rt.alloc();
-    let mut resolver = resolver(alloc)?;
-    resolver.add_input(0, &object(alloc, b"_start", b"first")?)?;
-    resolver.add_group(1, &members(alloc)?)?;
-    let resolution = settled(resolver)?;
+    let resolution = with_members(alloc, &object(alloc, b"_start", b"first")?)?;
     assert_eq!(rt; resolution.added().as_slice(), [0, 2, 1].as_slice());
     assert_eq!(rt; resolution.names().len(), 3);
     assert!(rt; resolution.is_kept(2, 1));
@@ -173,5 +224,35 @@ fn a_second_strong_definition_is_told_against_the_first(rt: HostRuntime) -> Resu
         second: Name::from_slice(alloc, b"b")?,
     };
     assert_eq!(rt; faults.as_slice(), [told].as_slice());
+    Ok(())
+}
+
+#[test]
+fn a_weak_reference_adds_no_member(rt: HostRuntime) -> Result<(), Fail> {
+    let alloc = rt.alloc();
+    let resolution = with_members(alloc, &with_weak(alloc, b"first", Home::Undefined)?)?;
+    assert_eq!(rt; resolution.added().as_slice(), [0].as_slice());
+    assert_eq!(rt;
+        meaning(alloc, &resolution, b"first")?,
+        Some(Winner::Nothing)
+    );
+    assert_eq!(rt; meaning(alloc, &resolution, b"second")?, None);
+    Ok(())
+}
+
+#[test]
+fn commons_are_merged_before_a_weak_definition(rt: HostRuntime) -> Result<(), Fail> {
+    let alloc = rt.alloc();
+    let objects = [
+        with_weak(alloc, b"name", Home::Section(1))?,
+        common(alloc, b"name", 8, 4)?,
+        common(alloc, b"name", 4, 16)?,
+    ];
+    let resolution = with_three(alloc, &objects)?;
+    assert_eq!(rt; resolution.added().as_slice(), [0, 1, 2].as_slice());
+    assert_eq!(rt;
+        meaning(alloc, &resolution, b"name")?,
+        Some(Winner::Common { size: 8, align: 16 })
+    );
     Ok(())
 }

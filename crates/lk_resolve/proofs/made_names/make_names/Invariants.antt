@@ -1,4 +1,4 @@
-use Rattle.std.proofs.Common.{◌≡◌, length}
+use Rattle.std.proofs.Common.{◌≡◌}
 use Rattle.lk_resolve.specs.MadeRows.{made_before, with_making}
 use Rattle.lk_resolve.proofs.made_names.make_names.Given as goal
 
