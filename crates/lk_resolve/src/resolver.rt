@@ -97,11 +97,23 @@ impl Resolver {
         ensures wanting { OnErr result (self.new ≡ None) }
         ensures spent { self.old ≡ None → IsErr result }
     {
+        self.add_members(first, members.as_slice())
+    }
+
+    /// `add_group` of members that stand in a row, as among the summaries of all inputs.
+    ///
+    /// # Errors
+    /// Want of memory, now or before. The resolver answers it from then on.
+    pub fn add_members(&mut self, first: u32, members: &[InputSummary]) -> Result<(), NoMemory>
+        ensures added { (entry : List ℕ) (paths : List (List ℕ)) (added : List Numbered) → self.old ≡ Some (state_of entry paths added) → OnOk result (self.new ≡ Some (state_of entry paths (added ++ listed_of (is_wanted_member entry) with_one added (numbered_on first members.now)))) }
+        ensures wanting { OnErr result (self.new ≡ None) }
+        ensures spent { self.old ≡ None → IsErr result }
+    {
         if self.is_spent {
             return Err(NoMemory);
         }
         self.is_spent = true;
-        add_members(self.alloc, &mut self.held, first, members.as_slice())?;
+        add_members(self.alloc, &mut self.held, first, members)?;
         self.is_spent = false;
         Ok(())
     }
