@@ -3,9 +3,10 @@
 //!
 //! `object_fault` is the first fault of a file by all checks in their order, or none: a validating reader.
 //! `read_object` tells the same fault, or gives the object, which contracts see as its bytes: its summary,
-//! the bytes and the relocations of its pieces, its LOCAL symbols. `read_summary` is what a link keeps of an
-//! object: pieces (`pieces_of`), symbols, groups, and whether it asks for an executable stack
-//! (`asks_exec_stack`); `relocated_sections` tells which sections have relocations. Each contract cites the
+//! the bytes and the relocations of its pieces, its LOCAL symbols. `summarize` tells the same fault, or gives
+//! the summary alone. `read_summary` is what a link keeps of an object of any parts: pieces (`pieces_of`),
+//! symbols, groups, and whether it asks for an executable stack (`asks_exec_stack`); `relocated_sections`
+//! tells which sections have relocations. Each contract cites the
 //! definition of that name in lk_model (ObjectChecks, Objects); the passes that checks go through, and what
 //! they read, stand in lk_obj_parts.
 //!
@@ -38,7 +39,7 @@ mod symbol_places;
 
 pub use failures::ReadFailure;
 pub use object_checks::object_fault;
-pub use object_reading::read_object;
+pub use object_reading::{read_object, summarize};
 pub use objects::Object;
 pub use pieces::pieces_of;
 pub use relocation_lists::RelaList;

@@ -2,7 +2,9 @@
 //! them.
 
 ghost use Rattle.std.specs.Prelude.{◌≡◌, ◌≤◌, ◌*◌, ◌^◌, length};
+ghost use Rattle.lk_model.specs.Elf.{elf_of};
 ghost use Rattle.lk_model.specs.ObjectChecks.{object_fault};
+ghost use Rattle.lk_model.specs.Objects.{summary_in};
 ghost use Rattle.lk_obj_read.specs.ReadObjects.{ReadGives};
 
 use crate::failures::ReadFailure;
@@ -11,6 +13,7 @@ use crate::object_checks::sound_parts;
 use crate::objects::Object;
 use crate::relocation_lists::relocations_by_target;
 use crate::summaries::read_summary;
+use lk_model::summaries::InputSummary;
 use lk_report::Bytes;
 use std::alloc::Global;
 
@@ -35,4 +38,16 @@ pub fn read_object(alloc: Global, bytes: Bytes) -> Result<Object, ReadFailure>
         summary,
         relocations,
     })
+}
+
+/// Reads what a link keeps of a file that is read as an object, and nothing else of it. At most 96 GiB.
+///
+/// # Errors
+/// The file's first fault, or want of memory, which is tied to no cause.
+pub fn summarize(alloc: Global, bytes: &[u8]) -> Result<InputSummary, ReadFailure>
+    requires { length bytes.now ≤ 24 * 2 ^ 32 }
+    ensures { ReadGives (object_fault bytes.now) (λ summary. summary ≡ summary_in (elf_of bytes.now)) result }
+{
+    let parts = sound_parts(alloc, bytes)?;
+    Ok(read_summary(alloc, bytes, &parts.header, &parts.sections, &parts.symbols)?)
 }
