@@ -2,10 +2,13 @@
 //! as its bytes; each answer is the definition's value of the file that they are.
 
 ghost use Rattle.std.specs.Prelude.{◌≡◌, ◌+◌, ◌<◌, ◌≤◌, All, IfSome, IsTrue, None, length};
+ghost use Rattle.lk_elf.specs.Numbers.{shf_tls};
+ghost use Rattle.lk_model.specs.Amounts.{has_flag};
 ghost use Rattle.lk_model.specs.Elf.{elf_of, section_at};
 ghost use Rattle.lk_model.specs.ObjectChecks.{object_fault};
 ghost use Rattle.lk_model.specs.Objects.{code_of_rela, is_piece_in, local_in, piece_bytes_in, relocations_in, summary_in, symbol_of_rela};
 ghost use Rattle.lk_model.specs.RelocationTypes.{width_of};
+ghost use Rattle.lk_model.specs.ScanFaults.{is_tls_section};
 ghost use Rattle.lk_obj_parts.specs.TargetRows.{room_of};
 
 use crate::local_symbols::local_at;
@@ -13,6 +16,7 @@ use crate::pieces::held_bytes;
 use crate::relocation_lists::RelaList;
 use crate::symbol_places::SymbolPlace;
 use lk_elf::Shdr;
+use lk_elf::numbers::SHF_TLS;
 use lk_model::summaries::{InputSummary, Local};
 use lk_report::Bytes;
 use std::marker::Model;
@@ -38,6 +42,13 @@ impl Model for Object {
     ghost view = { λ o. o.bytes };
 
     ghost invariant = { λ o. IsRead o.bytes o.sections.items o.symbols o.summary o.relocations.items };
+}
+
+/// Whether a section is thread-local (gABI "Sections", SHF_TLS).
+fn is_thread_local(header: &Shdr) -> bool
+    ensures { result ≡ has_flag header.now.sh_flags shf_tls }
+{
+    header.sh_flags / SHF_TLS % 2 == 1
 }
 
 impl Object {
@@ -84,5 +95,16 @@ impl Object {
         ensures { result ≡ local_in (elf_of self.now) symbol }
     {
         local_at(self.bytes.as_slice(), self.symbols, symbol)
+    }
+
+    /// Whether the section with this number is thread-local (gABI "Sections", SHF_TLS); no section has a
+    /// number past the table. Takes no memory.
+    pub fn is_tls_section(&self, section: u32) -> bool
+        ensures { result ≡ is_tls_section (elf_of self.now) section }
+    {
+        match self.sections.get(section as usize) {
+            Some(header) => is_thread_local(header),
+            None => false,
+        }
     }
 }
