@@ -1,0 +1,14 @@
+pub mod Folds
+pub mod KnownTypes
+pub mod SlotKeys
+pub mod OncePerName
+pub mod NamesSeen
+pub mod SymbolsFound
+pub mod NoFaults
+pub mod Joined
+pub mod NeedsJoined
+pub mod ReferencesNoted
+pub mod PiecesNoted
+pub mod AddedOnce
+pub mod KeptByInput
+pub mod LinkScanned

@@ -1,0 +1,94 @@
+-- This project's own: what a reference goes to, by the rows of the names and the kept sections alone.
+use Rattle.std.specs.Prelude.{ℕ, Bool, false, ◌&&◌, ◌||◌, not, List, length, map, Option, Some, None, option_map, option_and_then, slice_get}
+use Rattle.std.specs.List.{range_with_len}
+use Rattle.lk_elf.specs.declared.relocation.Rela.{Rela}
+use Rattle.lk_model.specs.declared.layouts.SectionKey.{SectionKey}
+use Rattle.lk_model.specs.declared.summaries.Contributions.{Contributions}
+use Rattle.lk_model.specs.declared.summaries.Global.{Global}
+use Rattle.lk_model.specs.declared.summaries.InputSummary.{InputSummary}
+use Rattle.lk_model.specs.declared.summaries.Winner.{Winner}
+use Rattle.lk_model.specs.KeptPieces.{is_loaded}
+use Rattle.lk_model.specs.Objects.{code_of_rela, local_in, symbol_of_rela}
+use Rattle.lk_model.specs.References.{through_of}
+use Rattle.lk_model.specs.ScanFaults.{is_tls_local, is_tls_section, needs_local_sections, of_local_section}
+use Rattle.lk_model.specs.Views.{Elf, Through}
+use Rattle.lk_model.specs.Winners.{import_symbol, is_nothing, is_tls_winner}
+use Rattle.lk_resolve.specs.Settling.{Settled, is_place_kept}
+use Rattle.lk_symtab.specs.NameRows.{NameRow, all_symbols, row_winner}
+use Rattle.lk_scan.specs.declared.targets.Import.{Import}
+use Rattle.lk_scan.specs.declared.targets.Referral.{Referral}
+use Rattle.lk_scan.specs.declared.targets.Setting.{Setting}
+use Rattle.lk_scan.specs.declared.targets.Target.{Target}
+use Rattle.lk_scan.specs.declared.targets.Way.TheVariants as way
+
+-- the symbol in a shared input that the name of a number means, where it means an import
+abbrev pub row_import : NameRow → Option Global
+row_import row = import_symbol row.contributions (row_winner row)
+
+abbrev pub import_in : List NameRow → ℕ → Option Global
+import_in rows number = option_and_then row_import (slice_get rows number)
+
+-- what is kept of an import
+abbrev pub import_seen : ℕ → Global → Import
+import_seen number g = record { name = number; code = g.code; size = g.size }
+
+-- what a name means, that has no symbol, and one with these symbols and this winner
+abbrev pub unknown_target : ℕ → Bool → Target
+unknown_target number weak = record { way = way.Name number weak; is_undefined = false; is_dropped = false; is_tls = false; is_no_tls = false; import = None }
+
+abbrev pub target_with : ℕ → Bool → Contributions → Winner → Target
+target_with number weak cs w = record {
+  way = way.Name number weak;
+  is_undefined = not weak && is_nothing w;
+  is_dropped = false;
+  is_tls = is_tls_winner cs w;
+  is_no_tls = not (is_nothing w) && not (is_tls_winner cs w);
+  import = option_map (import_seen number) (import_symbol cs w);
+}
+
+-- what the name of a number means
+abbrev pub name_target : List NameRow → ℕ → Bool → Target
+name_target rows number weak = elim (slice_get rows number) [ None ↦ unknown_target number weak | Some row ↦ target_with number weak row.contributions (row_winner row) ]
+
+-- what the names mean, by their numbers, to references that are not weak; and what a name means to one that
+-- is weak or not
+abbrev pub meanings_of : List NameRow → List Target
+meanings_of rows = map (λ n. name_target rows n false) (range_with_len 0 (length rows))
+
+abbrev pub to_weak : ℕ → Bool → Target → Target
+to_weak number weak t = record t { way = way.Name number weak; is_undefined = not weak && t.is_undefined }
+
+-- what a LOCAL symbol of this file means
+abbrev pub local_target : Settled → Elf → ℕ → ℕ → Target
+local_target settled elf input symbol = record {
+  way = way.Local symbol;
+  is_undefined = false;
+  is_dropped = of_local_section (local_in elf symbol) (λ s. not (is_place_kept settled.kept input s));
+  is_tls = is_tls_local (local_in elf symbol);
+  is_no_tls = not (is_tls_local (local_in elf symbol) || of_local_section (local_in elf symbol) (is_tls_section elf));
+  import = None;
+}
+
+-- what a reference goes to
+abbrev pub target_at : Settled → Elf → ℕ → Through → Target
+target_at settled elf input (Through.ByName number weak) = name_target settled.rows number weak
+target_at settled elf input (Through.ByLocal symbol) = local_target settled elf input symbol
+
+-- what a symbol of an object is to its relocations
+abbrev pub symbol_target : Settled → Elf → InputSummary → ℕ → ℕ → Target
+symbol_target settled elf summary input symbol = target_at settled elf input (through_of (all_symbols settled.rows) summary symbol)
+
+-- a relocation of a section as it is looked at
+abbrev pub referral_of : Settled → Elf → InputSummary → ℕ → ℕ → Rela → Referral
+referral_of settled elf summary input section rela = record {
+  input = input;
+  section = section;
+  offset = rela.r_offset;
+  code = code_of_rela rela;
+  addend = rela.r_addend;
+  target = symbol_target settled elf summary input (symbol_of_rela rela);
+}
+
+-- what an output section says of references in it
+abbrev pub setting_of : SectionKey → Setting
+setting_of key = record { is_loaded = is_loaded key.class; wants_sections = needs_local_sections key }
