@@ -1,46 +1,46 @@
-//! A reader for developers, and for whoever wants objects validated: `lk_probe read FILE`.
+//! A program for developers, and for whoever wants objects validated or wants to know what a link is made of.
 //!
-//! It says `object` with the numbers of its sections and symbols, or the first fault of the file as the
-//! linker would tell it, and ends with the linker's exit status for that: 0, 1 for a fault, 2 for words,
-//! 3 for a file that cannot be read, 5 for want of memory, 6 for a file of more than 64 MiB. It carries no
-//! theorem of its own: it is there to be run and timed.
+//! `lk_probe read FILE` says `object` with the numbers of the file's sections and symbols, or its first fault
+//! as the linker would tell it. `lk_probe resolve WORDS`, of the words of a link, says which inputs are added,
+//! in adding order, and how many names there are, or what the linker would tell of the words and the inputs
+//! before it looks at relocations. It ends with the linker's exit status for what it says: 0, 1 for faults, 2
+//! for words, 3 for a file that cannot be read, 5 for want of memory, 6 for a limit, 8 for what is not built
+//! yet. It carries no theorem of its own: it is there to be run and timed.
 #![tactic(auto)]
 
+mod arguments;
 mod reading;
+mod telling;
 
+use arguments::{Asked, what_is_asked};
 use lk_outside::{Files, HostFiles, HostSink, ReadAnswer};
-use lk_report::{Fault, List, Name, NoMemory, Status, say};
+use lk_report::{Fault, List, Name, NameList, NoMemory, Sink, Status, say};
 use reading::{Verdict, judged};
 use std::alloc::Global;
 use std::env;
 use std::process::ExitCode;
+use telling::told;
 
 fn main(rt: HostRuntime) -> ExitCode {
-    match asked_file(rt) {
-        Some(path) => probe(rt, path),
-        None => {
-            let _printed = println!(rt; "usage: lk_probe read FILE");
-            ExitCode::from(2)
-        }
+    let Ok(all) = env::args(&rt) else {
+        return usage(rt);
+    };
+    match what_is_asked(rt.alloc(), all) {
+        Ok(Asked::Read(path)) => read(rt, path),
+        Ok(Asked::Resolve(words)) => resolve(rt, &words),
+        Ok(Asked::Other) => usage(rt),
+        Err(NoMemory) => end(rt, Status::NoMemory),
     }
 }
 
-/// The file of the words `read FILE`.
-fn asked_file(rt: HostRuntime) -> Option<Name> {
-    let Ok(mut all) = env::args(&rt) else {
-        return None;
-    };
-    let _program = all.next();
-    let word = all.next()?;
-    let file = all.next()?;
-    if word.as_str() != "read" || all.next().is_some() {
-        return None;
-    }
-    Some(Name::from_vec(file.into_bytes()))
+/// Says how the program is called.
+fn usage(rt: HostRuntime) -> ExitCode {
+    let _printed = println!(rt; "usage: lk_probe read FILE\n       lk_probe resolve WORDS");
+    ExitCode::from(2)
 }
 
 /// Reads the file of a path and says what it is.
-fn probe(rt: HostRuntime, path: Name) -> ExitCode {
+fn read(rt: HostRuntime, path: Name) -> ExitCode {
     let mut files = HostFiles::new(rt);
     match files.read(&path) {
         ReadAnswer::Got(bytes) => tell(rt, path, judged(rt.alloc(), bytes.as_slice())),
@@ -60,6 +60,18 @@ fn tell(rt: HostRuntime, path: Name, verdict: Verdict) -> ExitCode {
         Verdict::Faulty(fault) => end(rt, one_fault(rt.alloc(), Fault::Input { path, fault })),
         Verdict::TooLong(limit) => end(rt, Status::Limit(limit)),
         Verdict::NoMemory => end(rt, Status::NoMemory),
+    }
+}
+
+/// Says what the inputs of a link decide.
+fn resolve(rt: HostRuntime, words: &NameList) -> ExitCode {
+    let mut files = HostFiles::new(rt);
+    match told(rt.alloc(), words, &mut files) {
+        Ok(text) => {
+            let _put = HostSink::new(rt).put(text.as_slice());
+            ExitCode::SUCCESS
+        }
+        Err(status) => end(rt, status),
     }
 }
 

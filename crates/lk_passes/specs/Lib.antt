@@ -1,0 +1,10 @@
+pub mod Unread
+pub mod Told
+pub mod Candidates
+pub mod Named
+pub mod LookUps
+pub mod FilesRead
+pub mod Adding
+pub mod Refusals
+pub mod Resolves
+pub mod AnswerLaws

@@ -1,0 +1,96 @@
+//! The inputs of a command: they are looked up, read, and read as objects.
+
+ghost use Rattle.std.specs.Prelude.{◌≡◌, ◌≤◌, ◌^◌, length, map, All, IsSome, Some, IfOk};
+ghost use Rattle.lk_report.specs.FileMap.{FileMap};
+ghost use Rattle.lk_passes.specs.FilesRead.{NamedGive, ObjectsGive, WaitGives};
+ghost use Rattle.lk_passes.specs.Named.{file_path};
+ghost use Rattle.lk_passes.specs.LookUps.{inputs_limit};
+ghost use Rattle.lk_passes.specs.Refusals.{CommandInputs};
+ghost use Rattle.lk_passes.specs.Told.{StatusCounts, map_told, reads_told, reads_with};
+
+use crate::input_files::{InputFile, InputFileList};
+use crate::input_names::InputNameList;
+use crate::reading::read_inputs;
+use crate::shared_inputs::first_shared;
+use crate::summaries::read_summaries;
+use crate::word_look_ups::look_up_inputs;
+use lk_model::commands::Command;
+use lk_model::summaries::SummaryList;
+use lk_outside::Files;
+use lk_report::{NoMemory, Status, Waiting};
+use std::alloc::Global;
+
+/// The inputs of a command, by number: their files, and what a link keeps of each.
+#[derive(Drop)]
+pub struct Inputs {
+    pub files: InputFileList,
+    pub summaries: SummaryList,
+}
+
+/// Why inputs wait: one of them is a shared object.
+fn shared_wait(alloc: Global, files: &[InputFile]) -> Result<(), Status>
+    ensures { WaitGives files.now result }
+{
+    match first_shared(alloc, files) {
+        Ok(None) => Ok(()),
+        Ok(Some(path)) => Err(Status::NotYet(Waiting::Form { path })),
+        Err(NoMemory) => Err(Status::NoMemory),
+    }
+}
+
+/// What a link keeps of files, none of which may be a shared object.
+fn objects_of(alloc: Global, files: &[InputFile]) -> Result<SummaryList, Status>
+    requires { All (λ file. length file.bytes ≤ 2 ^ 26) files.now }
+    ensures { ObjectsGive files.now result }
+{
+    shared_wait(alloc, files)?;
+    read_summaries(alloc, files)
+}
+
+/// Inputs whose files are there, each read once.
+///
+/// # Errors
+/// As soon as it is met: a read that failed, a file that went away, a limit on sizes; then a shared input; then
+/// all faults of inputs. Want of memory at any place.
+fn read_named<F: Files>(
+    alloc: Global,
+    names: InputNameList,
+    files: &mut F,
+) -> Result<Inputs, Status>
+    ensures kept { map_told (F.held files.new) ≡ map_told (F.held files.old) }
+    ensures reads { IfOk result (λ inputs. reads_told (F.held files.new) ≡ reads_with (map file_path inputs.files) (reads_told (F.held files.old))) }
+    ensures told { (there : FileMap) → map_told (F.held files.old) ≡ Some there → NamedGive there names result }
+    ensures faults { StatusCounts (F.held files.old) result (F.held files.new) }
+    ensures alike { IfOk result (λ inputs. length inputs.files ≡ length inputs.summaries) }
+    ensures short { IfOk result (λ inputs. All (λ file. length file.bytes ≤ 2 ^ 26) inputs.files) }
+{
+    let inputs = read_inputs(alloc, names, files)?;
+    let summaries = objects_of(alloc, inputs.as_slice())?;
+    Ok(Inputs {
+        files: inputs,
+        summaries,
+    })
+}
+
+/// The inputs of a command, each looked up and then read once.
+///
+/// # Errors
+/// The first of these: more inputs than 4,096; a look-up that failed; all inputs that are not there; a read
+/// that failed, a file that went away, or a limit on sizes, as soon as it is met; a shared input, which
+/// links do not read yet; all faults of inputs, in command order. Want of memory at any place.
+pub fn read_command<F: Files>(
+    alloc: Global,
+    command: &Command,
+    files: &mut F,
+) -> Result<Inputs, Status>
+    ensures kept { map_told (F.held files.new) ≡ map_told (F.held files.old) }
+    ensures reads { IfOk result (λ inputs. reads_told (F.held files.new) ≡ reads_with (map file_path inputs.files) (reads_told (F.held files.old))) }
+    ensures told { (there : FileMap) → map_told (F.held files.old) ≡ Some there → CommandInputs (inputs_limit command.now) command.now there result }
+    ensures faults { StatusCounts (F.held files.old) result (F.held files.new) }
+    ensures limit { IsSome (inputs_limit command.now) → F.held files.new ≡ F.held files.old }
+    ensures alike { IfOk result (λ inputs. length inputs.files ≡ length inputs.summaries) }
+    ensures short { IfOk result (λ inputs. All (λ file. length file.bytes ≤ 2 ^ 26) inputs.files) }
+{
+    let names = look_up_inputs(alloc, command, files)?;
+    read_named(alloc, names, files)
+}

@@ -1,0 +1,146 @@
+//! Looking the words of inputs up: which inputs are there, and which are not.
+
+ghost use Rattle.std.specs.Prelude.{◌≡◌, nat_lt, length, None, Some, IsSome, IfOk, OnOk};
+ghost use Rattle.lk_report.specs.FileMap.{FileMap};
+ghost use Rattle.lk_model.specs.Inputs.{missing_path};
+ghost use Rattle.lk_passes.specs.LookUps.{LookUpsGive, SoughtGives, WordTold, WordsTold, inputs_limit};
+ghost use Rattle.lk_passes.specs.Named.{word_seen, words_seen};
+ghost use Rattle.lk_passes.specs.Told.{StatusCounts, UnreadCounts, map_told, reads_told};
+
+use crate::input_names::{InputName, InputNameList};
+use crate::input_words::{InputWord, input_words};
+use crate::look_ups::{Place, first_place};
+use crate::places::{missing_path, places_of};
+use crate::unread::{Unread, status_of};
+use lk_model::commands::{Command, Word};
+use lk_outside::Files;
+use lk_report::{Fault, FaultList, LimitFault, LimitKind, List, NoMemory, Status};
+use std::alloc::Global;
+
+/// A link may have so many inputs.
+const MOST_INPUTS: usize = 4096;
+
+/// What the look-ups of words found.
+#[derive(Drop)]
+pub struct Sought {
+    /// The inputs whose files are there.
+    pub names: InputNameList,
+    /// The faults of the words whose files are not.
+    pub missing: FaultList,
+}
+
+/// The input of a word whose file was found at a place.
+fn name_at(row: InputWord<'_>, place: Place) -> InputName
+    ensures { result ≡ record { path = place.path; lib = row.entry.lib; mark = row.entry.word.now.mark; stamp = place.stamp } }
+{
+    InputName {
+        path: place.path,
+        lib: row.lib,
+        mark: row.word.mark,
+        stamp: place.stamp,
+    }
+}
+
+/// Looks a word up.
+fn look_up<F: Files>(
+    alloc: Global,
+    command: &Command,
+    row: InputWord<'_>,
+    files: &mut F,
+) -> Result<Option<InputName>, Unread>
+    ensures kept { map_told (F.held files.new) ≡ map_told (F.held files.old) }
+    ensures unread { reads_told (F.held files.new) ≡ reads_told (F.held files.old) }
+    ensures told { (there : FileMap) → map_told (F.held files.old) ≡ Some there → WordTold command.now there (word_seen row.entry) result }
+    ensures faults { UnreadCounts (F.held files.old) result (F.held files.new) }
+{
+    let places = places_of(alloc, command, row.word)?;
+    match first_place(alloc, places.as_slice(), files)? {
+        Some(place) => Ok(Some(name_at(row, place))),
+        None => Ok(None),
+    }
+}
+
+/// The fault of a word whose file is not there.
+fn missing(alloc: Global, word: &Word) -> Result<Fault, NoMemory>
+    ensures { IfOk result (λ fault. fault ≡ Fault.Missing (missing_path word.now)) }
+{
+    let path = missing_path(alloc, word)?;
+    Ok(Fault::Missing { path })
+}
+
+/// Looks words up, one after another.
+fn look_up_words<F: Files>(
+    alloc: Global,
+    command: &Command,
+    rows: &[InputWord<'_>],
+    files: &mut F,
+) -> Result<Sought, Unread>
+    ensures kept { map_told (F.held files.new) ≡ map_told (F.held files.old) }
+    ensures unread { reads_told (F.held files.new) ≡ reads_told (F.held files.old) }
+    ensures told { (there : FileMap) → map_told (F.held files.old) ≡ Some there → WordsTold command.now there (words_seen rows.now) result }
+    ensures faults { UnreadCounts (F.held files.old) result (F.held files.new) }
+{
+    let mut names = List::new(alloc);
+    let mut faults = List::new(alloc);
+    for row in rows {
+        match look_up(alloc, command, *row, files)? {
+            Some(name) => names.push(name)?,
+            None => faults.push(missing(alloc, row.word)?)?,
+        }
+    }
+    Ok(Sought {
+        names,
+        missing: faults,
+    })
+}
+
+/// Whether there is a fault.
+fn has_faults(faults: &FaultList) -> bool
+    ensures { result ≡ nat_lt 0 (length faults.now) }
+{
+    faults.as_slice().len() > 0
+}
+
+/// The inputs that were looked for, where none of them is missing.
+fn all_found(sought: Sought) -> Result<InputNameList, Status>
+    ensures { SoughtGives sought result }
+{
+    let Sought { names, missing } = sought;
+    if has_faults(&missing) {
+        return Err(Status::LinkError(missing));
+    }
+    Ok(names)
+}
+
+/// Looks the inputs of a command up, in command order, a library at one place after another.
+///
+/// # Errors
+/// More inputs than 4,096, told before a look-up; a look-up that failed, as soon as it did; all inputs that
+/// are not there, in command order; want of memory.
+pub fn look_up_inputs<F: Files>(
+    alloc: Global,
+    command: &Command,
+    files: &mut F,
+) -> Result<InputNameList, Status>
+    ensures kept { map_told (F.held files.new) ≡ map_told (F.held files.old) }
+    ensures unread { reads_told (F.held files.new) ≡ reads_told (F.held files.old) }
+    ensures told { (there : FileMap) → map_told (F.held files.old) ≡ Some there → LookUpsGive command.now there result }
+    ensures faults { StatusCounts (F.held files.old) result (F.held files.new) }
+    ensures limit { IsSome (inputs_limit command.now) → F.held files.new ≡ F.held files.old }
+    ensures few { OnOk result (inputs_limit command.now ≡ None) }
+{
+    let Ok(rows) = input_words(alloc, command.items.as_slice()) else {
+        return Err(Status::NoMemory);
+    };
+    let count = rows.as_slice().len();
+    if count > MOST_INPUTS {
+        return Err(Status::Limit(LimitFault {
+            which: LimitKind::Inputs,
+            number: count as u64,
+        }));
+    }
+    match look_up_words(alloc, command, rows.as_slice(), files) {
+        Ok(sought) => all_found(sought),
+        Err(unread) => Err(status_of(unread)),
+    }
+}
