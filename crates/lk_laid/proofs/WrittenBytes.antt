@@ -10,11 +10,12 @@ use Rattle.std.proofs.lemmas.List.Elements.{All-contains, All-from_recursion, re
 use Rattle.std.proofs.lemmas.List.Sums.{fold-append}
 use Rattle.lk_model.specs.Images.{stretch}
 use Rattle.lk_model.specs.LinkedBytes.{patch}
-use Rattle.lk_model.specs.Stretches.{AllStand, IsLaidOut, Stands, Stretch, end_of_all, has_byte, is_apart}
+use Rattle.lk_model.specs.Stretches.{AllStand, Stands, Stretch, end_of_all, has_byte, is_apart}
 use Rattle.lk_model.proofs.Rising.{all_map}
 use Rattle.lk_model.proofs.StretchLawProofs.{patch-keeps}
+use Rattle.lk_lawful.proofs.DistinctLists.{all_both, none_of_all, none_passes}
 use Rattle.lk_laid.specs.Written.{written}
-use Rattle.lk_laid.specs.WrittenLaws.{AllEndWithin, AreApart, EndsWithin, HoldsOver, IsZeros, LengthStays, PaddingIsZeros, PartsAreWhole, Puts, ShareNothing, WrittenInTurn, WrittenIsLaidOut, WrittenStands}
+use Rattle.lk_laid.specs.WrittenLaws.{AllEndWithin, AreApart, EndsWithin, IsZeros, LengthStays, PaddingIsZeros, PartsAreWhole, ShareNothing, WrittenInTurn, WrittenIsLaidOut, WrittenStands}
 
 -- ---- one write
 
@@ -126,16 +127,12 @@ bytes_stay image (t ∷ ts) k within none =
 -- ---- stretches of which no two share a byte
 
 -- what holds of all holds of each
-pub of_contained : (P : Stretch → Type 0) (ss : List Stretch) (s : Stretch) → AllByRecursion P ss → Contains ss s → P s
+pub of_contained : {A : Type 0} (P : A → Type 0) (ss : List A) (s : A) → AllByRecursion P ss → Contains ss s → P s
 of_contained P ss s all there = All-contains P ss s (All-from_recursion P ss all) there
 
 -- each of a list with the ones behind it
 agree_behind : (x s : Stretch) (ss : List Stretch) → AllByRecursion (ShareNothing x) ss → Contains ss s → Agree x s
 agree_behind x s ss all there = inl (of_contained (ShareNothing x) ss s all there)
-
-all_both : {A : Type 0} {P Q R : A → Type 0} → ((x : A) → P x → Q x → R x) → (xs : List A) → AllByRecursion P xs → AllByRecursion Q xs → AllByRecursion R xs
-all_both h [] first second = tt
-all_both h (x ∷ xs) first second = (h x first.0 second.0, all_both h xs first.1 second.1)
 
 agree_turned : (a b : Stretch) → Agree a b → Agree b a
 agree_turned a b (inl apart) = inl (turned a b apart)
@@ -178,17 +175,9 @@ zeros_stand n s within zeros =
     ∙ (take-replicate (length s.bytes) (n - s.at) 0 (omega (arith, within)) ∙ sym zeros)
 
 -- a byte that none of the stretches has, none of those among them has
-none_passes : (k : ℕ) (ss : List Stretch) → list_any (has_byte k) ss ≡ false → AllByRecursion (λ s. has_byte k s ≡ false) ss
-none_passes k [] none = tt
-none_passes k (s ∷ ss) none = let parts = or_parts (has_byte k s) (list_any (has_byte k) ss) none in (parts.0, none_passes k ss parts.1)
-
-none_of_all : (k : ℕ) (ss : List Stretch) → AllByRecursion (λ s. has_byte k s ≡ false) ss → list_any (has_byte k) ss ≡ false
-none_of_all k [] fails = refl
-none_of_all k (s ∷ ss) fails = or_from (has_byte k s) (list_any (has_byte k) ss) fails.0 (none_of_all k ss fails.1)
-
 none_among : (k : ℕ) (ss ts : List Stretch) → AllByRecursion (λ t. Contains ss t) ts → list_any (has_byte k) ss ≡ false → list_any (has_byte k) ts ≡ false
 none_among k ss ts only none =
-    none_of_all k ts (all_map (λ t there. of_contained (λ s. has_byte k s ≡ false) ss t (none_passes k ss none) there) ts only)
+    none_of_all (has_byte k) ts (all_map (λ t there. of_contained (λ s. has_byte k s ≡ false) ss t (none_passes (has_byte k) ss none) there) ts only)
 
 -- what is written into zeros, of stretches that share nothing
 puts_stand : (n : ℕ) (ss ts : List Stretch) (s : Stretch) → AreApart ss → AllEndWithin n ss → AllEndWithin n ts → AllByRecursion (λ t. Contains ss t) ts → Contains ss s → IsZeros s ⊎ Contains ts s → Stands (written (replicate n 0) ts) s

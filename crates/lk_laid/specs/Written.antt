@@ -6,7 +6,7 @@ use Rattle.lk_elf.specs.Records.{shdr_bytes}
 use Rattle.lk_model.specs.FileHeader.{header_bytes}
 use Rattle.lk_model.specs.FullPlace.{tail_start}
 use Rattle.lk_model.specs.Holes.{holes_of}
-use Rattle.lk_model.specs.Images.{hole_stretch, part_stretch, piece_stretch, seal, seal_offset, stretch}
+use Rattle.lk_model.specs.Images.{hole_stretch, part_stretch, piece_stretch, seal, seal_offset, stretch, table_stretches}
 use Rattle.lk_model.specs.LinkedBytes.{patch}
 use Rattle.lk_model.specs.SectionKeys.{in_file}
 use Rattle.lk_model.specs.Stretches.{Stretch}
@@ -51,6 +51,13 @@ row_fill place (n, row) = if in_file row.key.class then map (hole_stretch row) (
 -- the fill of all holes, row by row
 abbrev pub fill_stretches : Placement → List Stretch
 fill_stretches place = flat_map (row_fill place) (enumerate_from 0 place.sections)
+
+-- the tables that the file holds, row by row
+abbrev pub row_table : Resolved → Placement → SectionRow → List Stretch
+row_table r place row = if in_file row.key.class then table_stretches r place row else []
+
+abbrev pub table_stretches_of : Resolved → Placement → List Stretch
+table_stretches_of r place = flat_map (row_table r place) place.sections
 
 -- the parts of the tail, and the section headers
 abbrev pub tail_stretches : Placement → List Part → List Stretch

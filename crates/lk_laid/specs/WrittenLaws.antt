@@ -1,5 +1,5 @@
 -- The laws on bytes that stretches are written into, as statements (this project's own).
-use Rattle.std.specs.Prelude.{◌≡◌, ◌≤◌, ◌<◌, ◌+◌, ◌⊎◌, ℕ, false, IsTrue, List, [], ◌∷◌, ◌++◌, length, replicate, slice_index}
+use Rattle.std.specs.Prelude.{◌≡◌, ◌≤◌, ◌+◌, ◌⊎◌, ℕ, false, IsTrue, List, [], ◌∷◌, ◌++◌, length, replicate, slice_index}
 use Rattle.std.specs.List.{AllByRecursion, Contains, list_any}
 use Rattle.lk_model.specs.Images.{stretch}
 use Rattle.lk_model.specs.Lawful.{Pairs, share_nothing}

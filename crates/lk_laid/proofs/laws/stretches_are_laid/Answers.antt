@@ -1,0 +1,9 @@
+use Rattle.lk_laid.proofs.LinkApart as apart
+use Rattle.lk_laid.proofs.LinkWritten as writes
+use Rattle.lk_laid.proofs.laws.stretches_are_laid.Goals as goal
+
+pub returns-clause-stretches : goal.returns-clause-stretches
+returns-clause-stretches c = apart.stretches_are_laid
+
+pub returns-clause-tables : goal.returns-clause-tables
+returns-clause-tables c = writes.tables_are_zeros
