@@ -23,7 +23,7 @@ use Rattle.lk_lawful.proofs.PiecesLists.{all_numbered, all_numbered_one}
 use Rattle.lk_loaded.proofs.Greatest.{all_filtered}
 use Rattle.lk_loaded.proofs.PairsInOrder.{pairs_joined}
 use Rattle.lk_laid.specs.Layable.{Layable}
-use Rattle.lk_laid.specs.LaidLaws.{AreLaid, StretchesAreLaid}
+use Rattle.lk_laid.specs.LaidLaws.{AreLaid, HeadersAreShort, SectionsEndWithin, StretchesAreLaid}
 use Rattle.lk_laid.specs.WrittenLaws.{EndsWithin, ShareNothing}
 use Rattle.lk_laid.proofs.FillLengths.{fill_lengths}
 use Rattle.lk_laid.proofs.HolesApart.{holes_lie}
@@ -237,6 +237,15 @@ headers_short r place parts l =
     let long = length_header_bytes r place parts in
     let few : length (program_headers place (exec_stack_of r)) ≤ 64 = l.loadable.limits.headers in
     omega (arith, long, few)
+
+pub headers_are_short : HeadersAreShort
+headers_are_short r place parts l = headers_short r place parts l
+
+pub sections_end_within : SectionsEndWithin
+sections_end_within place parts =
+    let end = end_above (tail_start place) parts in
+    let up = round_up_above (parts_end (tail_start place) parts) 8 (omega arith) in
+    omega (arith, end, up)
 
 pub stretches_are_laid : StretchesAreLaid
 stretches_are_laid r place parts l = all_laid (header_bytes r place parts) r place parts l (headers_short r place parts l)

@@ -38,6 +38,13 @@ pub record AreLaid (stretches : List Stretch) (n : ℕ) : Type 0 where
 abbrev pub StretchesAreLaid : Type 0
 StretchesAreLaid = (r : Resolved) (place : Placement) (parts : List Part) → Layable r place → AreLaid (stretches_with r place parts) (length_with place parts)
 
+-- the headers end at or below the seal, and the output sections within the image
+abbrev pub HeadersAreShort : Type 0
+HeadersAreShort = (r : Resolved) (place : Placement) (parts : List Part) → Layable r place → length (header_bytes r place parts) ≤ seal_offset
+
+abbrev pub SectionsEndWithin : Type 0
+SectionsEndWithin = (place : Placement) (parts : List Part) → tail_start place ≤ length_with place parts
+
 -- the tables of a static link that needs nothing hold zeros alone
 abbrev pub TablesAreZeros : Type 0
 TablesAreZeros =

@@ -1,7 +1,7 @@
 //! What an image holds that is written stretch by stretch, as contracts of functions that do nothing: what
 //! is stated in specs/ alone could stay unproved.
 
-ghost use Rattle.lk_laid.specs.LaidLaws.{CommandIsWritten, GroupsAreWritten, InputsAreLayable, LinkIsWritten, LinkIsWrittenInOrder, SealedLinkIsWritten, StretchesAreLaid, TablesAreWritten, TablesAreZeros};
+ghost use Rattle.lk_laid.specs.LaidLaws.{CommandIsWritten, GroupsAreWritten, HeadersAreShort, InputsAreLayable, LinkIsWritten, LinkIsWrittenInOrder, SealedLinkIsWritten, SectionsEndWithin, StretchesAreLaid, TablesAreWritten, TablesAreZeros};
 ghost use Rattle.lk_laid.specs.WrittenLaws.{LengthStays, PartsAreWhole, PaddingIsZeros, WrittenInTurn, WrittenIsLaidOut, WrittenStands};
 
 /// Bytes into which stretches were written that share no byte hold each of them; what none of them has is as
@@ -20,6 +20,8 @@ pub fn writes_are_laid_out()
 /// dynamic, whatever its tail is. The tables of a static link that needs no slot and no entry hold zeros alone.
 pub fn stretches_are_laid()
     ensures stretches { StretchesAreLaid }
+    ensures headers { HeadersAreShort }
+    ensures sections { SectionsEndWithin }
     ensures tables { TablesAreZeros }
 {}
 

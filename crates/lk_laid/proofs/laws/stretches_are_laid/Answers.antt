@@ -7,3 +7,9 @@ returns-clause-stretches c = apart.stretches_are_laid
 
 pub returns-clause-tables : goal.returns-clause-tables
 returns-clause-tables c = writes.tables_are_zeros
+
+pub returns-clause-headers : goal.returns-clause-headers
+returns-clause-headers c = apart.headers_are_short
+
+pub returns-clause-sections : goal.returns-clause-sections
+returns-clause-sections c = apart.sections_end_within
