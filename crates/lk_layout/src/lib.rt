@@ -35,8 +35,6 @@ mod section_rows;
 mod sections;
 mod slots;
 mod stretches;
-#[cfg(test)]
-mod tests;
 mod walks;
 mod wide_rows;
 

@@ -1,7 +1,7 @@
 //! Small links by hand: pieces one behind the other, the thread-local segment, zeros that no memory holds, and
 //! sections of many kinds with the numbers of a linked image.
 
-use crate::layouts::full_layout;
+use lk_layout::full_layout;
 use lk_model::layouts::{
     Class, LayoutFault, Needs, PieceId, PieceRow, Placement, SectionKey, SectionRow,
 };
