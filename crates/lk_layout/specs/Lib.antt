@@ -1,0 +1,11 @@
+pub mod Equal
+pub mod Grouping
+pub mod Walked
+pub mod Sorts
+pub mod Ranked
+pub mod Extents
+pub mod Rows
+pub mod PieceRows
+pub mod RowNumbers
+pub mod Layouts
+pub mod KeptIn

@@ -1,0 +1,8 @@
+pub mod Given
+pub mod SizeRows
+pub mod DynamicRows
+pub mod Fills
+pub mod TextTables
+pub mod DynamicStrings
+pub mod EntryCounts
+pub mod SizesIn
