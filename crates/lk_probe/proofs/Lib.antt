@@ -1,1 +1,3 @@
 pub mod FirstHeaders
+pub mod InputsPlaced
+pub mod CommandPlaced

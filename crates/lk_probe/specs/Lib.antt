@@ -1,2 +1,4 @@
 pub mod Judging
 pub mod Telling
+pub mod Laying
+pub mod Rows

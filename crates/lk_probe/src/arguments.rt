@@ -11,6 +11,8 @@ pub enum Asked {
     Read(Name),
     /// What the inputs of these words decide.
     Resolve(NameList),
+    /// Where a link of these words, made anew, puts everything.
+    Layout(NameList),
     /// Nothing that the program knows.
     Other,
 }
@@ -24,6 +26,7 @@ pub fn what_is_asked(alloc: Global, mut all: Args) -> Result<Asked, NoMemory> {
     match word.as_str() {
         "read" => Ok(asked_file(all)),
         "resolve" => Ok(Asked::Resolve(words_of(alloc, all)?)),
+        "layout" => Ok(Asked::Layout(words_of(alloc, all)?)),
         _ => Ok(Asked::Other),
     }
 }

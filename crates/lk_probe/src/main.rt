@@ -3,19 +3,25 @@
 //! `lk_probe read FILE` says `object` with the numbers of the file's sections and symbols, or its first fault
 //! as the linker would tell it. `lk_probe resolve WORDS`, of the words of a link, says which inputs are added,
 //! in adding order, and how many names there are, or what the linker would tell of the words and the inputs
-//! before it looks at relocations. It ends with the linker's exit status for what it says: 0, 1 for faults, 2
+//! before it looks at relocations. `lk_probe layout WORDS` says where a link of these words, made anew, puts its
+//! output sections, and how many pieces it keeps, or what the linker would tell before it has an image. It ends with the linker's exit status for what it says: 0, 1 for faults, 2
 //! for words, 3 for a file that cannot be read, 5 for want of memory, 6 for a limit, 8 for what is not built
 //! yet. It carries no theorem of its own: it is there to be run and timed.
 #![tactic(auto)]
 
 mod arguments;
+mod laying;
+mod placing;
 mod reading;
+mod rows;
 mod telling;
+mod writing;
 
 use arguments::{Asked, what_is_asked};
 use lk_outside::{Files, HostFiles, HostSink, ReadAnswer};
-use lk_report::{Fault, List, Name, NameList, NoMemory, Sink, Status, say};
+use lk_report::{Bytes, Fault, List, Name, NameList, NoMemory, Sink, Status, say};
 use reading::{Verdict, judged};
+use rows::places_told;
 use std::alloc::Global;
 use std::env;
 use std::process::ExitCode;
@@ -28,6 +34,7 @@ fn main(rt: HostRuntime) -> ExitCode {
     match what_is_asked(rt.alloc(), all) {
         Ok(Asked::Read(path)) => read(rt, path),
         Ok(Asked::Resolve(words)) => resolve(rt, &words),
+        Ok(Asked::Layout(words)) => layout(rt, &words),
         Ok(Asked::Other) => usage(rt),
         Err(NoMemory) => end(rt, Status::NoMemory),
     }
@@ -35,7 +42,9 @@ fn main(rt: HostRuntime) -> ExitCode {
 
 /// Says how the program is called.
 fn usage(rt: HostRuntime) -> ExitCode {
-    let _printed = println!(rt; "usage: lk_probe read FILE\n       lk_probe resolve WORDS");
+    let _printed = println!(rt;
+        "usage: lk_probe read FILE\n       lk_probe resolve WORDS\n       lk_probe layout WORDS"
+    );
     ExitCode::from(2)
 }
 
@@ -66,7 +75,18 @@ fn tell(rt: HostRuntime, path: Name, verdict: Verdict) -> ExitCode {
 /// Says what the inputs of a link decide.
 fn resolve(rt: HostRuntime, words: &NameList) -> ExitCode {
     let mut files = HostFiles::new(rt);
-    match told(rt.alloc(), words, &mut files) {
+    answer(rt, told(rt.alloc(), words, &mut files))
+}
+
+/// Says where a link puts everything.
+fn layout(rt: HostRuntime, words: &NameList) -> ExitCode {
+    let mut files = HostFiles::new(rt);
+    answer(rt, places_told(rt.alloc(), words, &mut files))
+}
+
+/// Says a text, or the status in its place.
+fn answer(rt: HostRuntime, text: Result<Bytes, Status>) -> ExitCode {
+    match text {
         Ok(text) => {
             let _put = HostSink::new(rt).put(text.as_slice());
             ExitCode::SUCCESS

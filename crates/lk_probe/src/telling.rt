@@ -1,36 +1,16 @@
 //! The text of what the inputs of a link decide.
 
 ghost use Rattle.std.specs.Prelude.{◌≡◌, [], ◌++◌, get_or, length, IfOk, OnOk, Some};
-ghost use Rattle.std.specs.Fmt.{decimal};
 ghost use Rattle.lk_report.specs.FileMap.{FileMap};
 ghost use Rattle.lk_passes.specs.Told.{map_told};
 ghost use Rattle.lk_probe.specs.Telling.{Tells, added_line, added_lines, resolution_text};
 
+use crate::writing::{put, put_number};
 use lk_outside::Files;
 use lk_passes::resolve_words;
 use lk_report::{Bytes, NameList, NoMemory, Status};
 use lk_resolve::Resolution;
 use std::alloc::Global;
-
-/// Puts bytes at the end.
-fn put(text: &mut Vec<u8>, bytes: &[u8]) -> Result<(), NoMemory>
-    ensures { OnOk result (text.new.items ≡ text.old.items ++ bytes.now) }
-{
-    match text.extend_from_slice(bytes) {
-        Ok(()) => Ok(()),
-        Err(_) => Err(NoMemory),
-    }
-}
-
-/// Puts a number at the end.
-fn put_number(alloc: Global, text: &mut Vec<u8>, number: usize) -> Result<(), NoMemory>
-    ensures { OnOk result (text.new.items ≡ text.old.items ++ decimal number) }
-{
-    match format!(in alloc; "{number}") {
-        Ok(digits) => put(text, digits.as_bytes()),
-        Err(_) => Err(NoMemory),
-    }
-}
 
 /// Puts the path of an input at the end, which is empty for an input without one.
 fn put_path(text: &mut Vec<u8>, resolution: &Resolution, input: u32) -> Result<(), NoMemory>

@@ -1,0 +1,4 @@
+pub mod MarksMade
+pub mod ObjectsRead
+pub mod LinkScanned
+pub mod UnrefusedObjects

@@ -1,0 +1,59 @@
+//! The scan of the inputs of a link, from their files.
+
+ghost use Rattle.std.specs.Prelude.{◌≡◌, ◌≤◌, ◌^◌, List, length, All};
+ghost use Rattle.lk_report.specs.declared.causes.OptionRecord.{OptionRecord};
+ghost use Rattle.lk_model.specs.Resolving.{resolve};
+ghost use Rattle.lk_model.specs.Views.{Input};
+ghost use Rattle.lk_passes.specs.Named.{files_of};
+ghost use Rattle.lk_passes.specs.Resolves.{found_in};
+ghost use Rattle.lk_resolve.specs.Settling.{IsFound};
+ghost use Rattle.lk_link_scan.specs.Objects.{AreObjects};
+ghost use Rattle.lk_link_scan.specs.Scans.{InputsScanned};
+
+use crate::object_reading::{ObjectList, read_objects};
+use crate::object_scans::scan_objects;
+use lk_model::layouts::Needs;
+use lk_model::records::ReferenceList;
+use lk_passes::{InputFileList, InputNameList};
+use lk_resolve::Resolution;
+use lk_scan::ScanFailure;
+use std::alloc::Global;
+
+/// The inputs of a link with the objects of those that are added, and what the references of these need.
+#[derive(Drop)]
+pub struct ScannedInputs {
+    /// What is known of each input, by its number.
+    pub names: InputNameList,
+    /// The object of each input that is added, by its number; none of another.
+    pub objects: ObjectList,
+    /// Each slot, entry and copy once, in order of the first reference that needs it.
+    pub needs: Needs,
+    /// The references through names, in adding order, by piece and relocation.
+    pub references: ReferenceList,
+}
+
+/// Reads the files of the added inputs of a link as objects, and scans these in adding order: what their
+/// references need, and what an image records of them (psABI x86-64, "Relocation Types"). The files are given
+/// away, so that objects own their bytes, and none are copied.
+///
+/// # Errors
+/// All faults of the references, in adding order, by piece and relocation; want of memory. A file that has a
+/// fault as an object, which no input of a link has, is told as soon as it is met.
+pub fn scan_inputs(
+    alloc: Global,
+    files: InputFileList,
+    resolution: &Resolution,
+) -> Result<ScannedInputs, ScanFailure>
+    requires short { All (λ file. length file.bytes ≤ 2 ^ 26) files }
+    requires numbered { length files ≤ length resolution.now.paths }
+    ensures { (options : OptionRecord) (xs : List Input) → files ≡ files_of xs → AreObjects xs → IsFound resolution.now (found_in options.entry xs) → InputsScanned (resolve options xs) files result }
+{
+    let read = read_objects(alloc, files, resolution)?;
+    let scanned = scan_objects(alloc, read.objects.as_slice(), resolution)?;
+    Ok(ScannedInputs {
+        names: read.names,
+        objects: read.objects,
+        needs: scanned.needs,
+        references: scanned.references,
+    })
+}

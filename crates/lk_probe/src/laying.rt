@@ -1,0 +1,53 @@
+//! Where a link of these words, made anew, puts everything.
+
+ghost use Rattle.std.specs.Prelude.{◌≡◌, IsSome, Some};
+ghost use Rattle.lk_report.specs.FileMap.{FileMap};
+ghost use Rattle.lk_passes.specs.LookUps.{inputs_limit};
+ghost use Rattle.lk_passes.specs.Resolves.{WordsFirst};
+ghost use Rattle.lk_passes.specs.Told.{StatusCounts, map_told};
+ghost use Rattle.lk_probe.specs.Laying.{CommandLaid, WordsLaid};
+
+use crate::placing::{place_inputs, status_of};
+use lk_link_scan::unrefused_are_objects;
+use lk_model::commands::Command;
+use lk_model::layouts::Placement;
+use lk_outside::Files;
+use lk_passes::{command_of, read_command};
+use lk_report::{NameList, Status};
+use std::alloc::Global;
+
+/// Where a link of a command, made anew, puts everything.
+fn lay_out_command<F: Files>(
+    alloc: Global,
+    command: &Command,
+    files: &mut F,
+) -> Result<Placement, Status>
+    ensures told { (there : FileMap) → map_told (F.held files.old) ≡ Some there → CommandLaid command.now there result }
+    ensures faults { StatusCounts (F.held files.old) result (F.held files.new) }
+    ensures limit { IsSome (inputs_limit command.now) → F.held files.new ≡ F.held files.old }
+{
+    unrefused_are_objects();
+    let inputs = read_command(alloc, command, files)?;
+    match place_inputs(alloc, command, inputs) {
+        Ok(placement) => Ok(placement),
+        Err(unplaced) => Err(status_of(unplaced)),
+    }
+}
+
+/// Where a link of the command that words are, made anew, puts everything.
+///
+/// # Errors
+/// The first faulty word, before anything is asked of the files; the first reason why the inputs are refused;
+/// those of `place_inputs`.
+pub fn lay_out<F: Files>(
+    alloc: Global,
+    words: &NameList,
+    files: &mut F,
+) -> Result<Placement, Status>
+    ensures told { (there : FileMap) → map_told (F.held files.old) ≡ Some there → WordsLaid words.now there result }
+    ensures faults { StatusCounts (F.held files.old) result (F.held files.new) }
+    ensures words_first { WordsFirst words.now (F.held files.old) (F.held files.new) }
+{
+    let command = command_of(alloc, words)?;
+    lay_out_command(alloc, &command, files)
+}

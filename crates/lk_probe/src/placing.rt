@@ -1,0 +1,121 @@
+//! Where a link of inputs that were read, made anew, puts everything.
+
+ghost use Rattle.std.specs.Prelude.{◌≡◌, ◌≤◌, ◌^◌, List, length, All};
+ghost use Rattle.lk_model.specs.Resolving.{resolve};
+ghost use Rattle.lk_model.specs.Views.{Input};
+ghost use Rattle.lk_link_scan.specs.Objects.{AreObjects};
+ghost use Rattle.lk_passes.specs.Refusals.{AreInputs};
+ghost use Rattle.lk_passes.specs.Resolves.{settle_status};
+ghost use Rattle.lk_probe.specs.Laying.{InputsLaid, layout_status, scan_status, unplaced_status};
+ghost use Rattle.lk_probe.specs.declared.placing.Unplaced.TheVariants as unplaced;
+
+use lk_layout::full_layout;
+use lk_link_scan::scan_inputs;
+use lk_model::commands::Command;
+use lk_model::layouts::{LayoutFault, Placement};
+use lk_passes::{Inputs, resolve_inputs};
+use lk_report::Status;
+use lk_resolve::SettleFault;
+use lk_scan::ScanFailure;
+use std::alloc::Global;
+
+/// Why inputs that were read have no places.
+#[derive(Drop)]
+pub enum Unplaced {
+    /// Their names have faults, or are too many.
+    Settling(SettleFault),
+    /// Their references have faults.
+    Scanning(ScanFailure),
+    /// Their placement exceeds a limit.
+    Laying(LayoutFault),
+}
+
+impl From<SettleFault> for Unplaced {
+    ghost from_gives = { λ f e. e ≡ unplaced.Settling f };
+
+    fn from(fault: SettleFault) -> Unplaced {
+        Unplaced::Settling(fault)
+    }
+}
+
+impl From<ScanFailure> for Unplaced {
+    ghost from_gives = { λ f e. e ≡ unplaced.Scanning f };
+
+    fn from(failure: ScanFailure) -> Unplaced {
+        Unplaced::Scanning(failure)
+    }
+}
+
+impl From<LayoutFault> for Unplaced {
+    ghost from_gives = { λ f e. e ≡ unplaced.Laying f };
+
+    fn from(fault: LayoutFault) -> Unplaced {
+        Unplaced::Laying(fault)
+    }
+}
+
+/// What is answered where names have faults, or are too many.
+fn settle_status(fault: SettleFault) -> Status
+    ensures { result ≡ settle_status fault }
+{
+    match fault {
+        SettleFault::Faults(faults) => Status::LinkError(faults),
+        SettleFault::Limit(limit) => Status::Limit(limit),
+        SettleFault::NoMemory => Status::NoMemory,
+    }
+}
+
+/// What is answered where references have faults.
+fn scan_status(failure: ScanFailure) -> Status
+    ensures { result ≡ scan_status failure }
+{
+    match failure {
+        ScanFailure::Faults(faults) => Status::LinkError(faults),
+        ScanFailure::NoMemory => Status::NoMemory,
+    }
+}
+
+/// What is answered where a placement exceeds a limit.
+fn layout_status(fault: LayoutFault) -> Status
+    ensures { result ≡ layout_status fault }
+{
+    match fault {
+        LayoutFault::Limit(limit) => Status::Limit(limit),
+        LayoutFault::NoMemory => Status::NoMemory,
+    }
+}
+
+/// What is answered where inputs have no places.
+pub fn status_of(unplaced: Unplaced) -> Status
+    ensures { result ≡ unplaced_status unplaced }
+{
+    match unplaced {
+        Unplaced::Settling(fault) => settle_status(fault),
+        Unplaced::Scanning(failure) => scan_status(failure),
+        Unplaced::Laying(fault) => layout_status(fault),
+    }
+}
+
+/// Where a link of inputs that were read, made anew, puts everything: the files are added and settled, the
+/// added ones are read as objects and scanned, and what they keep is laid out.
+///
+/// # Errors
+/// More names than 2^20; the faults of the names; those of the references; more output sections or memory than
+/// a link may have; want of memory.
+pub fn place_inputs(alloc: Global, command: &Command, inputs: Inputs) -> Result<Placement, Unplaced>
+    requires alike { length inputs.files ≡ length inputs.summaries }
+    requires short { All (λ file. length file.bytes ≤ 2 ^ 26) inputs.files }
+    ensures { (xs : List Input) → AreInputs xs inputs → AreObjects xs → InputsLaid (resolve command.now.options xs) result }
+{
+    let Inputs { files, summaries } = inputs;
+    let options = &command.options;
+    let resolution = resolve_inputs(
+        alloc,
+        &options.entry,
+        files.as_slice(),
+        summaries.as_slice(),
+    )?;
+    let scanned = scan_inputs(alloc, files, &resolution)?;
+    let placement = full_layout(alloc, &resolution, &summaries, &scanned.needs, options)?;
+    Ok(placement)
+}
