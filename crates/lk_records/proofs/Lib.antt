@@ -1,0 +1,5 @@
+pub mod OccurrencesCounted
+pub mod MarksSet
+pub mod RecordsMade
+pub mod LinkRecorded
+pub mod StacksAsked
