@@ -1,0 +1,13 @@
+pub mod Lists
+pub mod Widths
+pub mod SymbolsFound
+pub mod NumbersTold
+pub mod FieldsTold
+pub mod PiecesOfObjects
+pub mod ReferencesOnce
+pub mod KeptHeld
+pub mod PlacesTold
+pub mod PlacedPieces
+pub mod PiecePut
+pub mod AllWritten
+pub mod LinkTold

@@ -1,0 +1,27 @@
+use Rattle.std.proofs.Common.{ap, sym, ◌∙◌, ◌++◌, length}
+use Rattle.lk_linked.specs.Faults.{overflows}
+use Rattle.lk_linked.proofs.PiecePut.{known_listed, known_object, known_there}
+use Rattle.lk_linked.proofs.PlacesTold.{piece_put, references_are}
+use Rattle.lk_linked.proofs.linking.Link.put_section.Goals as goal
+
+pub returns-in-None-clause-linked : goal.returns-in-None-clause-linked
+returns-in-None-clause-linked c = λ r link known lies is within. known_there c.args.self.now.objects.now r c.args.input c.args.section known c.in-None.ensures
+
+pub returns-in-None-clause-told : goal.returns-in-None-clause-told
+returns-in-None-clause-told c = λ r link known. known_there c.args.self.now.objects.now r c.args.input c.args.section known c.in-None.ensures
+
+pub returns-in_ok-link_piece-in-Some-clause-linked : goal.returns-in_ok-link_piece-in-Some-clause-linked
+returns-in_ok-link_piece-in-Some-clause-linked c = λ r link known lies is within.
+    let s = c.args.self.now in
+    let bytes = c.in-Some.object.now in
+    let object = known_object s.objects.now r c.args.input c.args.section bytes known c.in-Some.ensures in
+    c.in_ok-link_piece-in-Some.ensures.linked r link object (known_listed s.objects.now r c.args.input c.args.section bytes known c.in-Some.ensures)
+    ∙ piece_put r s.placement.now c.args.image.now c.args.piece.now c.args.input c.args.section bytes (length c.args.image.now) is object lies within
+
+pub returns-in_ok-link_piece-in-Some-clause-told : goal.returns-in_ok-link_piece-in-Some-clause-told
+returns-in_ok-link_piece-in-Some-clause-told c = λ r link known.
+    let s = c.args.self.now in
+    let bytes = c.in-Some.object.now in
+    let object = known_object s.objects.now r c.args.input c.args.section bytes known c.in-Some.ensures in
+    c.in_ok-link_piece-in-Some.ensures.told r link object (known_listed s.objects.now r c.args.input c.args.section bytes known c.in-Some.ensures)
+    ∙ ap (λ refs. c.args.faults.now ++ overflows r s.placement.now refs) (sym (references_are r c.args.input c.args.section bytes object))

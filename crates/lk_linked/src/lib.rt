@@ -1,0 +1,26 @@
+//! The linked bytes of pieces: each kept section is copied from its object to its place in the file, and the value
+//! of each of its relocations is written into its field (gABI "Relocation"; psABI x86-64 "Relocation Types").
+//!
+//! The objects of a link come in, what its inputs decide (`Resolution`), what symbols are worth (`Values`), a
+//! placement, which may be a full one or that of an update, and the bytes of the file. `link_pieces` goes over the
+//! placed pieces once, in their order, and tells every value that does not fit its field.
+//!
+//! The contract cites lk_model, wherever the arguments are those of a link (`IsLinked` of specs/Links.antt): the
+//! faults are those that `overflow_faults` lists, and where there are none, the stretches of the kept pieces
+//! (`piece_stretches` of specs/Written.antt) are written into the file, one after another. Callers rely on one law:
+//! a file without faults has the linked bytes of every piece, and no other byte is changed. The symbols of an object
+//! are looked up once each, by hash, before its first piece, and nothing is allocated for a relocation that fits.
+#![tactic(auto)]
+
+mod current_objects;
+mod field_filling;
+mod linking;
+mod object_sections;
+mod piece_places;
+mod relocations;
+mod section_linking;
+mod symbol_numbers;
+#[cfg(test)]
+mod tests;
+
+pub use linking::link_pieces;
