@@ -1,0 +1,14 @@
+use Rattle.std.proofs.Common.{ap, ◌∙◌}
+use Rattle.lk_model.specs.Resolving.{resolve}
+use Rattle.lk_table_sizes.proofs.Seen.{seen}
+use Rattle.lk_values.specs.Worth.{Known}
+use Rattle.lk_values.proofs.ValuesGiven.{name_numbers_told}
+use Rattle.lk_values.proofs.values.Values.name_numbers.Goals as goal
+
+pub returns : goal.returns
+returns c = λ needs options xs given lawful weak.
+    let known = c.args.self.now in
+    c.numbers_by.ensures
+    ∙ name_numbers_told known needs options (resolve options xs) (seen known.settled known.summaries needs options xs given) lawful
+    c.self.inside.addresses (ap (λ (k : Known). k.place) c.self.view_is) c.args.relocation.now c.name_value.result c.args.name c.name_value.ensures.value
+    c.is_thread_slot-thread.result c.is_thread_slot-thread.ensures weak
