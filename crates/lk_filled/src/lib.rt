@@ -20,8 +20,6 @@ mod gaps;
 mod hole_bytes;
 mod keys;
 mod laws;
-#[cfg(test)]
-mod tests;
 mod writing;
 
 pub use gaps::holes;

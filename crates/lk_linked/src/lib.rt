@@ -20,7 +20,5 @@ mod piece_places;
 mod relocations;
 mod section_linking;
 mod symbol_numbers;
-#[cfg(test)]
-mod tests;
 
 pub use linking::link_pieces;
