@@ -1,6 +1,0 @@
-use Rattle.std.proofs.Common.{◌≡◌, ◌+◌, ◌-◌}
-use Rattle.lk_driver.specs.PlainFields.{is_free}
-use Rattle.lk_driver.proofs.fields.is_free.Given as goal
-
-abbrev pub invariant-loop-k : goal.invariant-loop-k
-invariant-loop-k l = is_free l.marks l.k (l.at + l.width - l.k) ≡ is_free l.marks l.at l.width
