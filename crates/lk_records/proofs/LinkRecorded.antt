@@ -13,9 +13,9 @@ use Rattle.lk_model.specs.RecordsOf.{input_record, name_row, recorded_reference,
 use Rattle.lk_model.specs.References.{recorded, recorded_of}
 use Rattle.lk_model.specs.Resolving.{paths_of, resolve}
 use Rattle.lk_model.specs.Views.{Input, Ref, Through}
-use Rattle.lk_passes.specs.declared.input_files.InputFile.{InputFile}
+use Rattle.lk_passes.specs.declared.input_names.InputName.{InputName}
 use Rattle.lk_passes.specs.Adding.{summary_of}
-use Rattle.lk_passes.specs.Named.{file_path, files_of}
+use Rattle.lk_passes.specs.Named.{name_of}
 use Rattle.lk_passes.specs.Resolves.{found_in}
 use Rattle.lk_resolve.specs.Settling.{IsFound, Settled}
 use Rattle.lk_symtab.specs.NameRows.{NameRow, all_symbols, row_winner}
@@ -23,28 +23,28 @@ use Rattle.lk_records.specs.AddedMarks.{marks_from}
 use Rattle.lk_records.specs.Gathered.{gathered}
 use Rattle.lk_records.specs.InputRecords.{records_with}
 use Rattle.lk_records.specs.NameRecords.{recorded_name}
-use Rattle.lk_records.specs.Occurrences.{OccurrencesAreRight, occurrence_of, occurrences_after}
+use Rattle.lk_records.specs.Occurrences.{OccurrencesAreRight, name_path, occurrence_of, occurrences_after}
 
 -- ---- the inputs
 
-paths_told : (xs : List Input) → map file_path (files_of xs) ≡ paths_of xs
+paths_told : (xs : List Input) → map name_path (map name_of xs) ≡ paths_of xs
 paths_told [] = refl
 paths_told (x ∷ xs) = ap (λ (ps : List (List ℕ)). x.path ∷ ps) (paths_told xs)
 
-as_many : (xs : List Input) → length (files_of xs) ≡ length xs
+as_many : (xs : List Input) → length (map name_of xs) ≡ length xs
 as_many [] = refl
 as_many (x ∷ xs) = ap suc (as_many xs)
 
-inputs_told : (added : List ℕ) (first : ℕ) (xs : List Input) → records_with (files_of xs) (map occurrence_of xs) (marks_from added first (length xs)) (map summary_of xs) ≡ map (input_record added) (enumerate_from first xs)
+inputs_told : (added : List ℕ) (first : ℕ) (xs : List Input) → records_with (map name_of xs) (map occurrence_of xs) (marks_from added first (length xs)) (map summary_of xs) ≡ map (input_record added) (enumerate_from first xs)
 inputs_told added first [] = refl
 inputs_told added first (x ∷ xs) = ap (λ (rows : List InputRecord). input_record added (first, x) ∷ rows) (inputs_told added (first + 1) xs)
 
 inputs_recorded : (added : List ℕ) (xs : List Input) → OccurrencesAreRight xs
-    → records_with (files_of xs) (occurrences_after [] (map file_path (files_of xs))) (marks_from added 0 (length (files_of xs))) (map summary_of xs) ≡ map (input_record added) (enumerate_from 0 xs)
+    → records_with (map name_of xs) (occurrences_after [] (map name_path (map name_of xs))) (marks_from added 0 (length (map name_of xs))) (map summary_of xs) ≡ map (input_record added) (enumerate_from 0 xs)
 inputs_recorded added xs right =
-    ap (λ (ps : List (List ℕ)). records_with (files_of xs) (occurrences_after [] ps) (marks_from added 0 (length (files_of xs))) (map summary_of xs)) (paths_told xs)
-    ∙ ap (λ n. records_with (files_of xs) (occurrences_after [] (paths_of xs)) (marks_from added 0 n) (map summary_of xs)) (as_many xs)
-    ∙ ap (λ ns. records_with (files_of xs) ns (marks_from added 0 (length xs)) (map summary_of xs)) (sym right)
+    ap (λ (ps : List (List ℕ)). records_with (map name_of xs) (occurrences_after [] ps) (marks_from added 0 (length (map name_of xs))) (map summary_of xs)) (paths_told xs)
+    ∙ ap (λ n. records_with (map name_of xs) (occurrences_after [] (paths_of xs)) (marks_from added 0 n) (map summary_of xs)) (as_many xs)
+    ∙ ap (λ ns. records_with (map name_of xs) ns (marks_from added 0 (length xs)) (map summary_of xs)) (sym right)
     ∙ inputs_told added 0 xs
 
 -- ---- the names
@@ -66,7 +66,7 @@ references_told (ref ∷ refs) = λ i. cons_option (reference_told ref ref.throu
 -- ---- all of it
 
 gathered_told : (options : OptionRecord) (xs : List Input) (settled : Settled) (place : Placement) → OccurrencesAreRight xs → IsFound settled (found_in options.entry xs)
-    → gathered options (files_of xs) (map summary_of xs) settled (recorded_of (resolve options xs).references) place ≡ records_of (resolve options xs) place
+    → gathered options (map name_of xs) (map summary_of xs) settled (recorded_of (resolve options xs).references) place ≡ records_of (resolve options xs) place
 unfolding gathered records_of resolve
 gathered_told options xs settled place right found =
     λ i. record {
@@ -78,9 +78,9 @@ gathered_told options xs settled place right found =
       placement = place;
     }
 
-pub link_recorded : (options : OptionRecord) (xs : List Input) (files : List InputFile) (summaries : List InputSummary) (settled : Settled) (references : List Reference) (place : Placement) (r : Result Records NoMemory)
-    → IfOk r (λ (records : Records). records ≡ gathered options files summaries settled references place) → files ≡ files_of xs → summaries ≡ map summary_of xs → OccurrencesAreRight xs → IsFound settled (found_in options.entry xs)
+pub link_recorded : (options : OptionRecord) (xs : List Input) (names : List InputName) (summaries : List InputSummary) (settled : Settled) (references : List Reference) (place : Placement) (r : Result Records NoMemory)
+    → IfOk r (λ (records : Records). records ≡ gathered options names summaries settled references place) → names ≡ map name_of xs → summaries ≡ map summary_of xs → OccurrencesAreRight xs → IsFound settled (found_in options.entry xs)
     → references ≡ recorded_of (resolve options xs).references → IfOk r (λ (records : Records). records ≡ records_of (resolve options xs) place)
-link_recorded options xs files summaries settled references place (Ok records) is of_files of_summaries right found of_references =
-    is ∙ (λ i. gathered options (of_files i) (of_summaries i) settled (of_references i) place) ∙ gathered_told options xs settled place right found
-link_recorded options xs files summaries settled references place (Err want) is of_files of_summaries right found of_references = tt
+link_recorded options xs names summaries settled references place (Ok records) is of_names of_summaries right found of_references =
+    is ∙ (λ i. gathered options (of_names i) (of_summaries i) settled (of_references i) place) ∙ gathered_told options xs settled place right found
+link_recorded options xs names summaries settled references place (Err want) is of_names of_summaries right found of_references = tt

@@ -10,9 +10,8 @@ use Rattle.std.specs.Str.{bytes_eq}
 use Rattle.indexmap.specs.IndexMap.{insert_entry}
 use Rattle.lk_model.specs.Inputs.{Found, count_of, found_in, input_words, inputs_after, inputs_of}
 use Rattle.lk_model.specs.Resolving.{paths_of}
-use Rattle.lk_passes.specs.declared.input_files.InputFile.{InputFile}
-use Rattle.lk_passes.specs.Named.{file_path}
-use Rattle.lk_records.specs.Occurrences.{CommandsAreCounted, PathNoted, count_under, occurrence_of, occurrences_after, occurrences_by, with_path}
+use Rattle.lk_passes.specs.declared.input_names.InputName.{InputName}
+use Rattle.lk_records.specs.Occurrences.{CommandsAreCounted, PathNoted, count_under, occurrence_of, occurrences_after, occurrences_by, name_path, with_path}
 
 -- ---- one path
 
@@ -57,16 +56,16 @@ noted es new key before now had next put =
 
 -- ---- path after path
 
-pub one_more : (es after : List (Bor (List ℕ) × ℕ)) (done new all : List ℕ) (count i : ℕ) (files : List InputFile) (file : InputFile) (path : List ℕ)
-    → i < length files → file ≡ get_or files i file → path ≡ file.name.path → PathNoted es path count after → new ≡ done ++ count ∷ []
-    → done ++ occurrences_by (count_under es) (map file_path (drop i files)) ≡ all
-    → new ++ occurrences_by (count_under after) (map file_path (drop (i + 1) files)) ≡ all
-one_more es after done new all count i files file path within is named noted pushed so_far =
-    ap (λ (l : List ℕ). l ++ occurrences_by (count_under after) (map file_path (drop (i + 1) files))) pushed
-    ∙ append_assoc done (count ∷ []) (occurrences_by (count_under after) (map file_path (drop (i + 1) files)))
-    ∙ (λ j. done ++ noted.0 j ∷ occurrences_by (λ other. noted.1 other j) (map file_path (drop (add-one i j) files)))
-    ∙ ap (λ p. done ++ occurrences_by (count_under es) (p ∷ map file_path (drop (suc i) files))) (named ∙ ap file_path is)
-    ∙ ap (λ (fs : List InputFile). done ++ occurrences_by (count_under es) (map file_path fs)) (sym (drop-cons files i file within))
+pub one_more : (es after : List (Bor (List ℕ) × ℕ)) (done new all : List ℕ) (count i : ℕ) (names : List InputName) (name : InputName) (path : List ℕ)
+    → i < length names → name ≡ get_or names i name → path ≡ name.path → PathNoted es path count after → new ≡ done ++ count ∷ []
+    → done ++ occurrences_by (count_under es) (map name_path (drop i names)) ≡ all
+    → new ++ occurrences_by (count_under after) (map name_path (drop (i + 1) names)) ≡ all
+one_more es after done new all count i names name path within is named noted pushed so_far =
+    ap (λ (l : List ℕ). l ++ occurrences_by (count_under after) (map name_path (drop (i + 1) names))) pushed
+    ∙ append_assoc done (count ∷ []) (occurrences_by (count_under after) (map name_path (drop (i + 1) names)))
+    ∙ (λ j. done ++ noted.0 j ∷ occurrences_by (λ other. noted.1 other j) (map name_path (drop (add-one i j) names)))
+    ∙ ap (λ p. done ++ occurrences_by (count_under es) (p ∷ map name_path (drop (suc i) names))) (named ∙ ap name_path is)
+    ∙ ap (λ (fs : List InputName). done ++ occurrences_by (count_under es) (map name_path fs)) (sym (drop-cons names i name within))
     ∙ so_far
 
 -- counts that are those of earlier paths
@@ -81,13 +80,13 @@ counts_told counts earlier (path ∷ paths) h =
     more other false e = e
 
 -- once all of them were noted
-pub all_counted : (es : List (Bor (List ℕ) × ℕ)) (done : List ℕ) (i : ℕ) (files : List InputFile) → length files ≤ i
-    → done ++ occurrences_by (count_under es) (map file_path (drop i files)) ≡ occurrences_by (λ path. 0) (map file_path files) → done ≡ occurrences_after [] (map file_path files)
-all_counted es done i files all so_far =
+pub all_counted : (es : List (Bor (List ℕ) × ℕ)) (done : List ℕ) (i : ℕ) (names : List InputName) → length names ≤ i
+    → done ++ occurrences_by (count_under es) (map name_path (drop i names)) ≡ occurrences_by (λ path. 0) (map name_path names) → done ≡ occurrences_after [] (map name_path names)
+all_counted es done i names all so_far =
     sym (append-nil done)
-    ∙ ap (λ (fs : List InputFile). done ++ occurrences_by (count_under es) (map file_path fs)) (sym (drop_all i files all))
+    ∙ ap (λ (fs : List InputName). done ++ occurrences_by (count_under es) (map name_path fs)) (sym (drop_all i names all))
     ∙ so_far
-    ∙ counts_told (λ path. 0) [] (map file_path files) (λ path. refl)
+    ∙ counts_told (λ path. 0) [] (map name_path names) (λ path. refl)
 
 -- ---- the inputs of a command
 

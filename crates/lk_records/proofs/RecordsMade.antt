@@ -8,13 +8,12 @@ use Rattle.lk_model.specs.declared.summaries.Contributions.{Contributions}
 use Rattle.lk_model.specs.declared.summaries.InputSummary.{InputSummary}
 use Rattle.lk_model.specs.declared.summaries.Winner.{Winner}
 use Rattle.lk_model.specs.RecordsOf.{name_row}
-use Rattle.lk_passes.specs.declared.input_files.InputFile.{InputFile}
-use Rattle.lk_passes.specs.Named.{file_path}
+use Rattle.lk_passes.specs.declared.input_names.InputName.{InputName}
 use Rattle.lk_symtab.specs.NameRows.{NameRow, row_winner, symbols_in}
 use Rattle.lk_records.specs.AddedMarks.{is_added, marks_from}
 use Rattle.lk_records.specs.InputRecords.{record_with, records_with}
 use Rattle.lk_records.specs.NameRecords.{recorded_name}
-use Rattle.lk_records.specs.Occurrences.{occurrences_after}
+use Rattle.lk_records.specs.Occurrences.{name_path, occurrences_after}
 
 -- ---- inputs
 
@@ -23,27 +22,27 @@ occurrences_length earlier [] = refl
 occurrences_length earlier (path ∷ paths) = ap suc (occurrences_length (path ∷ earlier) paths)
 
 -- there is one occurrence for each input, and one mark
-pub occurrences_as_many : (files : List InputFile) (occurrences : List ℕ) → occurrences ≡ occurrences_after [] (map file_path files) → length occurrences ≡ length files
-occurrences_as_many files occurrences is = ap length is ∙ occurrences_length [] (map file_path files) ∙ length-map files file_path
+pub occurrences_as_many : (names : List InputName) (occurrences : List ℕ) → occurrences ≡ occurrences_after [] (map name_path names) → length occurrences ≡ length names
+occurrences_as_many names occurrences is = ap length is ∙ occurrences_length [] (map name_path names) ∙ length-map names name_path
 
-pub marks_as_many : (added : List ℕ) (files : List InputFile) (marks : List Bool) → marks ≡ marks_from added 0 (length files) → length marks ≡ length files
-marks_as_many added files marks is = ap length is ∙ length-map-range_with_len (is_added added) 0 (length files)
+pub marks_as_many : (added : List ℕ) (names : List InputName) (marks : List Bool) → marks ≡ marks_from added 0 (length names) → length marks ≡ length names
+marks_as_many added names marks is = ap length is ∙ length-map-range_with_len (is_added added) 0 (length names)
 
-next_input : (files : List InputFile) (occurrences : List ℕ) (marks : List Bool) (rest : List InputSummary) (n occurrence : ℕ) (file : InputFile) (mark : Bool) (summary : InputSummary)
-    → n < length files → n < length occurrences → n < length marks → file ≡ get_or files n file → occurrence ≡ get_or occurrences n occurrence → mark ≡ get_or marks n mark
-    → records_with (drop n files) (drop n occurrences) (drop n marks) (summary ∷ rest) ≡ record_with file occurrence mark summary ∷ records_with (drop (n + 1) files) (drop (n + 1) occurrences) (drop (n + 1) marks) rest
-next_input files occurrences marks rest n occurrence file mark summary f o m is_file is_occurrence is_mark =
-    (λ i. records_with (drop-cons files n file f i) (drop-cons occurrences n occurrence o i) (drop-cons marks n mark m i) (summary ∷ rest))
-    ∙ (λ i. record_with (sym is_file i) (sym is_occurrence i) (sym is_mark i) summary ∷ records_with (drop (sym (add-one n) i) files) (drop (sym (add-one n) i) occurrences) (drop (sym (add-one n) i) marks) rest)
+next_input : (names : List InputName) (occurrences : List ℕ) (marks : List Bool) (rest : List InputSummary) (n occurrence : ℕ) (name : InputName) (mark : Bool) (summary : InputSummary)
+    → n < length names → n < length occurrences → n < length marks → name ≡ get_or names n name → occurrence ≡ get_or occurrences n occurrence → mark ≡ get_or marks n mark
+    → records_with (drop n names) (drop n occurrences) (drop n marks) (summary ∷ rest) ≡ record_with name occurrence mark summary ∷ records_with (drop (n + 1) names) (drop (n + 1) occurrences) (drop (n + 1) marks) rest
+next_input names occurrences marks rest n occurrence name mark summary f o m is_name is_occurrence is_mark =
+    (λ i. records_with (drop-cons names n name f i) (drop-cons occurrences n occurrence o i) (drop-cons marks n mark m i) (summary ∷ rest))
+    ∙ (λ i. record_with (sym is_name i) (sym is_occurrence i) (sym is_mark i) summary ∷ records_with (drop (sym (add-one n) i) names) (drop (sym (add-one n) i) occurrences) (drop (sym (add-one n) i) marks) rest)
 
-pub one_more_input : (files : List InputFile) (occurrences : List ℕ) (marks : List Bool) (rest : List InputSummary) (n occurrence : ℕ) (file : InputFile) (mark : Bool) (summary : InputSummary) (row : InputRecord) (rows new all : List InputRecord)
-    → n < length files → n < length occurrences → n < length marks → file ≡ get_or files n file → occurrence ≡ get_or occurrences n occurrence → mark ≡ get_or marks n mark
-    → row ≡ record_with file occurrence mark summary → new ≡ rows ++ row ∷ [] → rows ++ records_with (drop n files) (drop n occurrences) (drop n marks) (summary ∷ rest) ≡ all
-    → new ++ records_with (drop (n + 1) files) (drop (n + 1) occurrences) (drop (n + 1) marks) rest ≡ all
-one_more_input files occurrences marks rest n occurrence file mark summary row rows new all f o m is_file is_occurrence is_mark is pushed so_far =
-    (λ i. (pushed ∙ ap (λ r. rows ++ r ∷ []) is) i ++ records_with (drop (n + 1) files) (drop (n + 1) occurrences) (drop (n + 1) marks) rest)
-    ∙ append_assoc rows (record_with file occurrence mark summary ∷ []) (records_with (drop (n + 1) files) (drop (n + 1) occurrences) (drop (n + 1) marks) rest)
-    ∙ ap (λ l. rows ++ l) (sym (next_input files occurrences marks rest n occurrence file mark summary f o m is_file is_occurrence is_mark))
+pub one_more_input : (names : List InputName) (occurrences : List ℕ) (marks : List Bool) (rest : List InputSummary) (n occurrence : ℕ) (name : InputName) (mark : Bool) (summary : InputSummary) (row : InputRecord) (rows new all : List InputRecord)
+    → n < length names → n < length occurrences → n < length marks → name ≡ get_or names n name → occurrence ≡ get_or occurrences n occurrence → mark ≡ get_or marks n mark
+    → row ≡ record_with name occurrence mark summary → new ≡ rows ++ row ∷ [] → rows ++ records_with (drop n names) (drop n occurrences) (drop n marks) (summary ∷ rest) ≡ all
+    → new ++ records_with (drop (n + 1) names) (drop (n + 1) occurrences) (drop (n + 1) marks) rest ≡ all
+one_more_input names occurrences marks rest n occurrence name mark summary row rows new all f o m is_name is_occurrence is_mark is pushed so_far =
+    (λ i. (pushed ∙ ap (λ r. rows ++ r ∷ []) is) i ++ records_with (drop (n + 1) names) (drop (n + 1) occurrences) (drop (n + 1) marks) rest)
+    ∙ append_assoc rows (record_with name occurrence mark summary ∷ []) (records_with (drop (n + 1) names) (drop (n + 1) occurrences) (drop (n + 1) marks) rest)
+    ∙ ap (λ l. rows ++ l) (sym (next_input names occurrences marks rest n occurrence name mark summary f o m is_name is_occurrence is_mark))
     ∙ so_far
 
 -- ---- names

@@ -8,6 +8,11 @@ use Rattle.lk_model.specs.declared.commands.Command.{Command}
 use Rattle.lk_model.specs.Inputs.{count_of, inputs_of}
 use Rattle.lk_model.specs.Resolving.{paths_of}
 use Rattle.lk_model.specs.Views.{Input}
+use Rattle.lk_passes.specs.declared.input_names.InputName.{InputName}
+
+-- the path of an input, by what code holds of its name
+abbrev pub name_path : InputName → List ℕ
+name_path name = name.path
 
 -- for each path how many before it are the same, where these came earlier
 abbrev pub occurrences_after : List (List ℕ) → List (List ℕ) → List ℕ

@@ -6,7 +6,7 @@ ghost use Rattle.lk_model.specs.References.{recorded_of};
 ghost use Rattle.lk_model.specs.Resolving.{resolve};
 ghost use Rattle.lk_model.specs.Views.{Input};
 ghost use Rattle.lk_passes.specs.Adding.{summary_of};
-ghost use Rattle.lk_passes.specs.Named.{files_of};
+ghost use Rattle.lk_passes.specs.Named.{name_of};
 ghost use Rattle.lk_passes.specs.Resolves.{found_in};
 ghost use Rattle.lk_records.specs.Gathered.{gathered};
 ghost use Rattle.lk_records.specs.Occurrences.{OccurrencesAreRight};
@@ -17,7 +17,7 @@ use crate::name_records::name_rows;
 use lk_model::layouts::Placement;
 use lk_model::records::{Records, ReferenceList};
 use lk_model::summaries::SummaryList;
-use lk_passes::InputFile;
+use lk_passes::InputName;
 use lk_report::{NoMemory, OptionRecord};
 use lk_resolve::Resolution;
 use std::alloc::Global;
@@ -43,29 +43,29 @@ fn options_with(
 fn gather(
     alloc: Global,
     options: &OptionRecord,
-    files: &[InputFile],
+    names: &[InputName],
     summaries: SummaryList,
     resolution: &Resolution,
     references: ReferenceList,
     placement: Placement,
 ) -> Result<Records, NoMemory>
-    requires { length files.now ≡ length summaries }
-    ensures { IfOk result (λ records. records ≡ gathered options.now files.now summaries resolution.now references placement) }
+    requires { length names.now ≡ length summaries }
+    ensures { IfOk result (λ records. records ≡ gathered options.now names.now summaries resolution.now references placement) }
 {
     let options = options_with(alloc, options, resolution.dynamic())?;
-    let inputs = input_records(alloc, files, summaries, resolution.added().as_slice())?;
-    let names = name_rows(alloc, resolution.names())?;
+    let inputs = input_records(alloc, names, summaries, resolution.added().as_slice())?;
+    let rows = name_rows(alloc, resolution.names())?;
     Ok(Records {
         version: RECORDS_VERSION,
         options,
         inputs,
-        names,
+        names: rows,
         references,
         placement,
     })
 }
 
-/// What an image records of a link: of the inputs that have these files and summaries, by number, which were
+/// What an image records of a link: of the inputs that have these names and summaries, by number, which were
 /// resolved to this, with the references that an image records and where everything stands. What is given by
 /// value is moved into the records; paths, options and names are copied.
 ///
@@ -74,16 +74,16 @@ fn gather(
 pub fn link_records(
     alloc: Global,
     options: &OptionRecord,
-    files: &[InputFile],
+    names: &[InputName],
     summaries: SummaryList,
     resolution: &Resolution,
     references: ReferenceList,
     placement: Placement,
 ) -> Result<Records, NoMemory>
-    requires { length files.now ≡ length summaries }
-    ensures { (xs : List Input) → files.now ≡ files_of xs → summaries ≡ map summary_of xs → OccurrencesAreRight xs → IsFound resolution.now (found_in options.now.entry xs) → references ≡ recorded_of (resolve options.now xs).references → IfOk result (λ records. records ≡ records_of (resolve options.now xs) placement) }
+    requires { length names.now ≡ length summaries }
+    ensures { (xs : List Input) → names.now ≡ map name_of xs → summaries ≡ map summary_of xs → OccurrencesAreRight xs → IsFound resolution.now (found_in options.now.entry xs) → references ≡ recorded_of (resolve options.now xs).references → IfOk result (λ records. records ≡ records_of (resolve options.now xs) placement) }
 {
     gather(
-        alloc, options, files, summaries, resolution, references, placement,
+        alloc, options, names, summaries, resolution, references, placement,
     )
 }

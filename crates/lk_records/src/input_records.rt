@@ -1,36 +1,35 @@
 //! The records of the inputs, those that were not added too.
 
 ghost use Rattle.std.specs.Prelude.{◌≡◌, [], length, map, IfOk};
-ghost use Rattle.lk_passes.specs.Named.{file_path};
 ghost use Rattle.lk_records.specs.AddedMarks.{marks_from};
 ghost use Rattle.lk_records.specs.InputRecords.{record_with, records_with};
-ghost use Rattle.lk_records.specs.Occurrences.{occurrences_after};
+ghost use Rattle.lk_records.specs.Occurrences.{name_path, occurrences_after};
 
 use crate::added_marks::added_marks;
 use crate::occurrences::occurrences_of;
 use lk_model::records::{InputRecord, InputRecordList};
 use lk_model::summaries::{InputSummary, SummaryList};
-use lk_passes::InputFile;
+use lk_passes::InputName;
 use lk_report::{List, NoMemory};
 use std::alloc::Global;
 
 /// The record of an input, which has so many inputs with its path before it, and is added or not.
 fn record_of(
     alloc: Global,
-    file: &InputFile,
+    name: &InputName,
     occurrence: u32,
     added: bool,
     summary: InputSummary,
 ) -> Result<InputRecord, NoMemory>
-    ensures { IfOk result (λ row. row ≡ record_with file.now occurrence added summary) }
+    ensures { IfOk result (λ row. row ≡ record_with name.now occurrence added summary) }
 {
-    let path = file.name.path.copy(alloc)?;
+    let path = name.path.copy(alloc)?;
     Ok(InputRecord {
         path,
         occurrence,
-        lib: file.name.lib,
+        lib: name.lib,
         added,
-        stamp: file.name.stamp,
+        stamp: name.stamp,
         summary,
     })
 }
@@ -38,19 +37,19 @@ fn record_of(
 /// The records of inputs with these occurrences and marks.
 fn records_of(
     alloc: Global,
-    files: &[InputFile],
+    names: &[InputName],
     occurrences: &[u32],
     marks: &[bool],
     summaries: SummaryList,
 ) -> Result<InputRecordList, NoMemory>
-    requires files { length files.now ≡ length summaries }
+    requires names { length names.now ≡ length summaries }
     requires occurrences { length occurrences.now ≡ length summaries }
     requires marks { length marks.now ≡ length summaries }
-    ensures { IfOk result (λ rows. rows ≡ records_with files.now occurrences.now marks.now summaries) }
+    ensures { IfOk result (λ rows. rows ≡ records_with names.now occurrences.now marks.now summaries) }
 {
     let mut records = List::new(alloc);
     for (n, summary) in summaries.into_vec().into_iter().enumerate() {
-        records.push(record_of(alloc, &files[n], occurrences[n], marks[n], summary)?)?;
+        records.push(record_of(alloc, &names[n], occurrences[n], marks[n], summary)?)?;
     }
     Ok(records)
 }
@@ -61,14 +60,14 @@ fn records_of(
 /// Want of memory alone.
 pub fn input_records(
     alloc: Global,
-    files: &[InputFile],
+    names: &[InputName],
     summaries: SummaryList,
     added: &[u32],
 ) -> Result<InputRecordList, NoMemory>
-    requires { length files.now ≡ length summaries }
-    ensures { IfOk result (λ rows. rows ≡ records_with files.now (occurrences_after [] (map file_path files.now)) (marks_from added.now 0 (length files.now)) summaries) }
+    requires { length names.now ≡ length summaries }
+    ensures { IfOk result (λ rows. rows ≡ records_with names.now (occurrences_after [] (map name_path names.now)) (marks_from added.now 0 (length names.now)) summaries) }
 {
-    let occurrences = occurrences_of(alloc, files)?;
-    let marks = added_marks(alloc, files.len(), added)?;
-    records_of(alloc, files, occurrences.as_slice(), &marks, summaries)
+    let occurrences = occurrences_of(alloc, names)?;
+    let marks = added_marks(alloc, names.len(), added)?;
+    records_of(alloc, names, occurrences.as_slice(), &marks, summaries)
 }

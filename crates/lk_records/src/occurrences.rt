@@ -1,12 +1,11 @@
 //! How many inputs before it have the path of an input.
 
 ghost use Rattle.std.specs.Prelude.{◌≡◌, ◌+◌, [], map, IfOk};
-ghost use Rattle.lk_passes.specs.Named.{file_path};
-ghost use Rattle.lk_records.specs.Occurrences.{PathNoted, count_under, occurrences_after};
+ghost use Rattle.lk_records.specs.Occurrences.{PathNoted, count_under, name_path, occurrences_after};
 
 use indexmap::IndexMap;
 use lk_model::summaries::NumberList;
-use lk_passes::InputFile;
+use lk_passes::InputName;
 use lk_report::{List, NoMemory};
 use std::alloc::Global;
 
@@ -46,13 +45,13 @@ fn note_path<'f>(counts: &mut IndexMap<&'f [u8], u32>, path: &'f [u8]) -> Result
 ///
 /// # Errors
 /// Want of memory alone.
-pub fn occurrences_of<'f>(alloc: Global, files: &'f [InputFile]) -> Result<NumberList, NoMemory>
-    ensures { IfOk result (λ counts. counts ≡ occurrences_after [] (map file_path files.now)) }
+pub fn occurrences_of<'f>(alloc: Global, names: &'f [InputName]) -> Result<NumberList, NoMemory>
+    ensures { IfOk result (λ counts. counts ≡ occurrences_after [] (map name_path names.now)) }
 {
     let mut counts: IndexMap<&'f [u8], u32> = IndexMap::new(alloc);
     let mut occurrences = List::new(alloc);
-    for file in files {
-        occurrences.push(note_path(&mut counts, file.name.path.as_slice())?)?;
+    for name in names {
+        occurrences.push(note_path(&mut counts, name.path.as_slice())?)?;
     }
     Ok(occurrences)
 }

@@ -7,5 +7,5 @@ use Rattle.lk_records.proofs.input_records.records_of.Given as goal
 abbrev pub invariant-loop-n : goal.invariant-loop-n
 invariant-loop-n l = record {
   left : l.n-iterator.count + length (into_iter_items l.n-iterator.iter) ≡ length l.fn.summaries;
-  made : l.records ++ records_with (drop l.n-iterator.count l.files) (drop l.n-iterator.count l.occurrences) (drop l.n-iterator.count l.marks) (into_iter_items l.n-iterator.iter) ≡ records_with l.files l.occurrences l.marks l.fn.summaries;
+  made : l.records ++ records_with (drop l.n-iterator.count l.names) (drop l.n-iterator.count l.occurrences) (drop l.n-iterator.count l.marks) (into_iter_items l.n-iterator.iter) ≡ records_with l.names l.occurrences l.marks l.fn.summaries;
 }

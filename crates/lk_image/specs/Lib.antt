@@ -1,0 +1,4 @@
+pub mod ImageAnswers
+pub mod PlacedLinks
+pub mod Tails
+pub mod Writes

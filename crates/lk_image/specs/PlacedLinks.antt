@@ -1,0 +1,52 @@
+-- This project's own: when what code holds of a link is what resolution finds of the inputs of a command, and the
+-- placement one whose image is written.
+use Rattle.std.specs.Prelude.{◌≡◌, ◌≤◌, ◌^◌, ℕ, List, Option}
+use Rattle.std.specs.List.{AllByRecursion}
+use Rattle.lk_report.specs.declared.causes.OptionRecord.{OptionRecord}
+use Rattle.lk_model.specs.Answers.{length_with}
+use Rattle.lk_model.specs.FileHeader.{header_bytes}
+use Rattle.lk_model.specs.FullPlace.{memory_of}
+use Rattle.lk_model.specs.Lawful.{Lawful}
+use Rattle.lk_model.specs.Resolving.{resolve}
+use Rattle.lk_model.specs.Tail.{Part}
+use Rattle.lk_model.specs.Views.{Input, Resolved}
+use Rattle.lk_model.specs.declared.layouts.Needs.{Needs}
+use Rattle.lk_model.specs.declared.layouts.Placement.{Placement}
+use Rattle.lk_model.specs.declared.summaries.InputSummary.{InputSummary}
+use Rattle.lk_headers.specs.Front.{up_to_seal}
+use Rattle.lk_laid.specs.Layable.{Layable, NeedsNoTables}
+use Rattle.lk_linked.specs.HeldObjects.{HoldsObject}
+use Rattle.lk_linked.specs.Links.{IsLinked}
+use Rattle.lk_loaded.specs.Loadable.{WithinLimits}
+use Rattle.lk_resolve.specs.Settling.{Settled}
+use Rattle.lk_table_sizes.specs.Given.{IsGiven}
+use Rattle.lk_values.specs.Worth.{Known}
+
+-- a static link without tables at a placement that it may have
+pub record IsPlacedLink (settled : Settled) (summaries : List InputSummary) (objects : List (Option (List ℕ))) (options : OptionRecord) (xs : List Input) (place : Placement) : Type 0 where
+  -- the summaries are those of the inputs, and the added ones of these decide what is settled
+  pub needs : Needs
+  pub given : IsGiven settled summaries needs options xs
+  -- the objects are those of the added inputs
+  pub objects_are : AllByRecursion (HoldsObject objects (resolve options xs).inputs) (resolve options xs).added
+  -- the placement is lawful, within the limit on memory
+  pub lawful : Lawful (resolve options xs) place
+  pub memory : memory_of place ≤ 2 ^ 31
+  -- and its stretches share no byte where its program headers end below the seal
+  pub layable : WithinLimits (resolve options xs) place → Layable (resolve options xs) place
+  -- the link needs no table
+  pub tables : NeedsNoTables (resolve options xs)
+
+-- the sections of a link can be written into a file of so many bytes
+pub record IsWritable (settled : Settled) (known : Known) (objects : List (Option (List ℕ))) (r : Resolved) (place : Placement) (parts : List Part) (size : ℕ) : Type 0 where
+  pub linked : IsLinked settled known place objects r
+  pub whole : size ≡ length_with place parts
+  pub short : length_with place parts ≤ 2 ^ 29
+
+-- and so can its image, with these headers at the front
+pub record IsFramed (settled : Settled) (known : Known) (objects : List (Option (List ℕ))) (r : Resolved) (place : Placement) (parts : List Part) (front : List ℕ) : Type 0 where
+  pub linked : IsLinked settled known place objects r
+  pub layable : Layable r place
+  pub tables : NeedsNoTables r
+  pub front_is : front ≡ up_to_seal (header_bytes r place parts)
+  pub short : length_with place parts ≤ 2 ^ 29

@@ -1,0 +1,39 @@
+-- The tail of an image at its places (this project's own; gABI "Sections"), and what a link has once its records
+-- are made.
+use Rattle.std.specs.Prelude.{ℕ, List, map}
+use Rattle.std.specs.List.{flat_map}
+use Rattle.lk_elf.specs.Records.{shdr_bytes}
+use Rattle.lk_model.specs.Answers.{length_with}
+use Rattle.lk_model.specs.FullPlace.{tail_start}
+use Rattle.lk_model.specs.Tail.{Part, headers_offset, section_headers, tail_parts}
+use Rattle.lk_model.specs.Views.{Resolved}
+use Rattle.lk_model.specs.declared.layouts.Placement.{Placement}
+use Rattle.lk_model.specs.declared.records.InputRecord.{InputRecord}
+use Rattle.lk_model.specs.declared.summaries.InputSummary.{InputSummary}
+use Rattle.lk_headers.specs.TailRows.{rows_of_parts}
+use Rattle.lk_image.specs.declared.placed_tails.PlacedTail.{PlacedTail}
+use Rattle.lk_image.specs.declared.described.Described.{Described}
+use Rattle.lk_table_sizes.specs.Given.{input_summary}
+
+-- a tail with these parts
+abbrev pub placed_tail : Placement → List Part → PlacedTail
+placed_tail place parts = record {
+  start = tail_start place;
+  parts = parts;
+  rows = rows_of_parts place parts;
+  headers_at = headers_offset place parts;
+  headers = flat_map shdr_bytes (section_headers place parts);
+  length = length_with place parts;
+}
+
+-- the summary of a recorded input
+abbrev pub recorded_summary : InputRecord → InputSummary
+recorded_summary x = x.summary
+
+-- what a link has once its records are made
+abbrev pub described_of : Resolved → Placement → Described
+described_of r place = record {
+  summaries = map input_summary r.inputs;
+  placement = place;
+  tail = placed_tail place (tail_parts r place);
+}
