@@ -1,0 +1,4 @@
+pub mod PassAnswers
+pub mod ObjectsHeld
+pub mod ImagesLinked
+pub mod LinksTold

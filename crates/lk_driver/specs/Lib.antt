@@ -2,3 +2,5 @@ pub mod LinkAnswers
 pub mod ReadInputs
 pub mod Committing
 pub mod Outer
+pub mod LinkPasses
+pub mod ScannedLinks

@@ -13,6 +13,9 @@
 #![tactic(auto)]
 
 mod commits;
+mod file_numbers;
+mod link_needs;
+mod link_passes;
 mod links;
 mod run;
 mod words;

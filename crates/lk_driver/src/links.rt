@@ -4,11 +4,46 @@ ghost use Rattle.std.specs.Prelude.{◌≡◌, ◌≤◌, ◌^◌, List, length,
 ghost use Rattle.lk_model.specs.Resolving.{resolve};
 ghost use Rattle.lk_model.specs.Views.{Input};
 ghost use Rattle.lk_driver.specs.LinkAnswers.{LinkAnswers};
+ghost use Rattle.lk_driver.specs.LinkPasses.{LinkGives, needs_answer};
 ghost use Rattle.lk_driver.specs.ReadInputs.{AreReadInputs};
+ghost use Rattle.lk_driver.specs.ScannedLinks.{IsScannedLink};
 
+use crate::file_numbers::files_fit;
+use crate::link_needs::check_needs;
+use crate::link_passes::{place, scan, settle};
+use lk_image::link_image;
+use lk_link_scan::ScannedInputs;
+use lk_model::summaries::SummaryList;
 use lk_passes::Inputs;
 use lk_report::{Bytes, OptionRecord, Status};
+use lk_resolve::Resolution;
 use std::alloc::Global;
+
+/// The image of a link whose references are scanned.
+fn link_scanned(
+    alloc: Global,
+    options: &OptionRecord,
+    resolution: &Resolution,
+    summaries: SummaryList,
+    scanned: ScannedInputs,
+) -> Result<Bytes, Status>
+    requires { length scanned.names ≡ length summaries }
+    ensures { (xs : List Input) → IsScannedLink options.now xs summaries resolution.now scanned → LinkGives (needs_answer (resolve options.now xs)) (resolve options.now xs) result }
+{
+    let ScannedInputs {
+        names,
+        objects,
+        needs,
+        references,
+    } = scanned;
+    let names = names.as_slice();
+    let objects = objects.as_slice();
+    check_needs(alloc, &needs, names)?;
+    let placement = place(alloc, options, resolution, &summaries, &needs)?;
+    link_image(
+        alloc, options, names, summaries, resolution, objects, references, placement,
+    )
+}
 
 /// The image of a link of inputs that were read.
 ///
@@ -25,5 +60,10 @@ pub(crate) fn link_inputs(
     requires short { All (λ file. length file.bytes ≤ 2 ^ 26) inputs.files }
     ensures { (xs : List Input) → AreReadInputs options.now xs inputs → LinkAnswers (resolve options.now xs) result }
 {
-    Err(Status::NoMemory)
+    // So the records of the link can be read back.
+    files_fit(inputs.files.as_slice());
+    let resolution = settle(alloc, options, &inputs)?;
+    let Inputs { files, summaries } = inputs;
+    let scanned = scan(alloc, files, &resolution)?;
+    link_scanned(alloc, options, &resolution, summaries, scanned)
 }

@@ -2,7 +2,7 @@
 use Rattle.std.proofs.Common.{◌≡◌, refl, sym, ap, ◌∙◌, subst, arith, ℕ, zero, suc, ◌+◌, ◌<◌, nat_eq, Bool, true, false, ◌||◌, ◌&&◌, cond, List, [], ◌∷◌, ◌++◌, drop, fold, get_or, length, map, Option, Some, None, Result, Ok, Err, slice_get}
 use Rattle.std.specs.Prelude.{is_none, option_map}
 use Rattle.std.proofs.lemmas.Bool.{eq-eqb}
-use Rattle.std.proofs.lemmas.List.{append-nil, append_assoc, drop_more}
+use Rattle.std.proofs.lemmas.List.{append-nil, append_assoc, drop_more, length-map}
 use Rattle.lk_report.specs.declared.causes.OptionRecord.{OptionRecord}
 use Rattle.lk_report.specs.declared.faults.InputFault.{InputFault}
 use Rattle.lk_model.specs.Elf.{elf_of}
@@ -15,6 +15,7 @@ use Rattle.lk_model.specs.ScanFaults.{scan_faults}
 use Rattle.lk_model.specs.Views.{Elf, Input, Resolved}
 use Rattle.lk_model.proofs.Finding.{found_in-resolve}
 use Rattle.lk_passes.specs.declared.input_files.InputFile.{InputFile}
+use Rattle.lk_passes.specs.declared.input_names.InputName.{InputName}
 use Rattle.lk_passes.specs.Named.{files_of}
 use Rattle.lk_passes.specs.Resolves.{found_in}
 use Rattle.lk_resolve.specs.Settling.{IsFound, Settled}
@@ -25,7 +26,7 @@ use Rattle.lk_scan.specs.declared.noting.Scan.{Scan}
 use Rattle.lk_scan.specs.declared.scans.ScanFailure.{ScanFailure}
 use Rattle.lk_scan.specs.declared.scans.ScanFailure.TheVariants as failure
 use Rattle.lk_scan.specs.declared.scans.Scanned.{Scanned}
-use Rattle.lk_link_scan.specs.Objects.{AreObjects, IsObject, ObjectsGive, are_sound, objects_from, objects_of}
+use Rattle.lk_link_scan.specs.Objects.{AreObjects, IsObject, ObjectsGive, are_sound, input_name, input_names, objects_from, objects_of}
 use Rattle.lk_link_scan.specs.Scans.{InputsScanned, object_in, scan_with, scans_of}
 use Rattle.lk_link_scan.specs.declared.link_scanning.ScannedInputs.{ScannedInputs}
 use Rattle.lk_link_scan.specs.declared.object_reading.LinkObjects.{LinkObjects}
@@ -171,3 +172,7 @@ unread_told r xs objects files f result are sound h e = subst (InputsScanned r f
     by : (g : ScanFailure) → ObjectsGive objects files (Err g) → InputsScanned r files (Err g)
     by (failure.Faults faults) a = absurd (let e : true ≡ false = sym (all_sound xs sound) ∙ ap are_sound (sym are) ∙ a in cc)
     by failure.NoMemory a = tt
+
+-- each file has one name
+pub one_name_each : (files : List InputFile) (names : List InputName) → names ≡ input_names files → length names ≡ length files
+one_name_each files names e = ap (λ (l : List InputName). length l) e ∙ length-map files input_name

@@ -1,6 +1,6 @@
 //! The scan of the inputs of a link, from their files.
 
-ghost use Rattle.std.specs.Prelude.{◌≡◌, ◌≤◌, ◌^◌, List, length, All};
+ghost use Rattle.std.specs.Prelude.{◌≡◌, ◌≤◌, ◌^◌, List, length, All, IfOk};
 ghost use Rattle.lk_report.specs.declared.causes.OptionRecord.{OptionRecord};
 ghost use Rattle.lk_model.specs.Resolving.{resolve};
 ghost use Rattle.lk_model.specs.Views.{Input};
@@ -46,7 +46,8 @@ pub fn scan_inputs(
 ) -> Result<ScannedInputs, ScanFailure>
     requires short { All (λ file. length file.bytes ≤ 2 ^ 26) files }
     requires numbered { length files ≤ length resolution.now.paths }
-    ensures { (options : OptionRecord) (xs : List Input) → files ≡ files_of xs → AreObjects xs → IsFound resolution.now (found_in options.entry xs) → InputsScanned (resolve options xs) files result }
+    ensures scanned { (options : OptionRecord) (xs : List Input) → files ≡ files_of xs → AreObjects xs → IsFound resolution.now (found_in options.entry xs) → InputsScanned (resolve options xs) files result }
+    ensures count { IfOk result (λ scanned. length scanned.names ≡ length files) }
 {
     let read = read_objects(alloc, files, resolution)?;
     let scanned = scan_objects(alloc, read.objects.as_slice(), resolution)?;

@@ -1,0 +1,87 @@
+//! The passes of a link of inputs that were read, each with the status that it ends the link with.
+
+ghost use Rattle.std.specs.Prelude.{◌≡◌, ◌≤◌, ◌^◌, List, length, All, IfOk};
+ghost use Rattle.lk_report.specs.declared.causes.OptionRecord.{OptionRecord as OptionsTold};
+ghost use Rattle.lk_model.specs.Resolving.{resolve};
+ghost use Rattle.lk_model.specs.Views.{Input};
+ghost use Rattle.lk_link_scan.specs.Objects.{AreObjects};
+ghost use Rattle.lk_passes.specs.Named.{files_of};
+ghost use Rattle.lk_passes.specs.Refusals.{AreInputs};
+ghost use Rattle.lk_passes.specs.Resolves.{found_in};
+ghost use Rattle.lk_resolve.specs.Settling.{IsFound};
+ghost use Rattle.lk_table_sizes.specs.Given.{IsGiven};
+ghost use Rattle.lk_driver.specs.LinkPasses.{PlaceAnswers, ScanAnswers, SettleAnswers};
+
+use lk_layout::full_layout;
+use lk_link_scan::{ScannedInputs, scan_inputs};
+use lk_model::layouts::{LayoutFault, Needs, Placement};
+use lk_model::summaries::SummaryList;
+use lk_passes::{InputFileList, Inputs, resolve_inputs};
+use lk_report::{OptionRecord, Status};
+use lk_resolve::{Resolution, SettleFault};
+use lk_scan::ScanFailure;
+use std::alloc::Global;
+
+/// What the inputs decide: those that are added, names and their definitions, kept sections.
+///
+/// # Errors
+/// More names than 2^20; else the faults of the names; want of memory.
+pub(crate) fn settle(
+    alloc: Global,
+    options: &OptionRecord,
+    inputs: &Inputs,
+) -> Result<Resolution, Status>
+    requires { length inputs.now.files ≡ length inputs.now.summaries }
+    ensures settled { (xs : List Input) → AreInputs xs inputs.now → SettleAnswers options.now xs result }
+    ensures numbered { IfOk result (λ settled. length settled.paths ≡ length inputs.now.files) }
+{
+    let files = inputs.files.as_slice();
+    let summaries = inputs.summaries.as_slice();
+    match resolve_inputs(alloc, &options.entry, files, summaries) {
+        Ok(resolution) => Ok(resolution),
+        Err(SettleFault::Faults(faults)) => Err(Status::LinkError(faults)),
+        Err(SettleFault::Limit(limit)) => Err(Status::Limit(limit)),
+        Err(SettleFault::NoMemory) => Err(Status::NoMemory),
+    }
+}
+
+/// What the references of the added inputs need, with the objects that their files are.
+///
+/// # Errors
+/// The faults of the references; want of memory.
+pub(crate) fn scan(
+    alloc: Global,
+    files: InputFileList,
+    resolution: &Resolution,
+) -> Result<ScannedInputs, Status>
+    requires short { All (λ file. length file.bytes ≤ 2 ^ 26) files }
+    requires numbered { length files ≤ length resolution.now.paths }
+    ensures scanned { (options : OptionsTold) (xs : List Input) → files ≡ files_of xs → AreObjects xs → IsFound resolution.now (found_in options.entry xs) → ScanAnswers (resolve options xs) files result }
+    ensures count { IfOk result (λ scanned. length scanned.names ≡ length files) }
+{
+    match scan_inputs(alloc, files, resolution) {
+        Ok(scanned) => Ok(scanned),
+        Err(ScanFailure::Faults(faults)) => Err(Status::LinkError(faults)),
+        Err(ScanFailure::NoMemory) => Err(Status::NoMemory),
+    }
+}
+
+/// Where the link puts everything.
+///
+/// # Errors
+/// More output sections than 60,000; more memory than 2 GiB; want of memory.
+pub(crate) fn place(
+    alloc: Global,
+    options: &OptionRecord,
+    resolution: &Resolution,
+    summaries: &SummaryList,
+    needs: &Needs,
+) -> Result<Placement, Status>
+    ensures { (xs : List Input) → IsGiven resolution.now summaries.now needs.now options.now xs → PlaceAnswers (resolve options.now xs) result }
+{
+    match full_layout(alloc, resolution, summaries, needs, options) {
+        Ok(placement) => Ok(placement),
+        Err(LayoutFault::Limit(limit)) => Err(Status::Limit(limit)),
+        Err(LayoutFault::NoMemory) => Err(Status::NoMemory),
+    }
+}
