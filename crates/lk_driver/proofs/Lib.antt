@@ -1,0 +1,4 @@
+pub mod OuterWords
+pub mod OuterAsked
+pub mod OuterRefused
+pub mod OuterLinked
