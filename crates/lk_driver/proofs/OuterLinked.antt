@@ -1,15 +1,14 @@
 -- From the inputs that were read, and what their link answers, to what the passes before the commit answer.
-use Rattle.std.proofs.Common.{◌≡◌, ◌≤◌, refl, sym, ap, ◌∙◌, subst, ℕ, Bool, true, false, List, length, Option, Some, None, Result, Ok, Err}
-use Rattle.std.specs.Prelude.{IfSome, MatchOption, option_map}
-use Rattle.std.specs.List.{AllByRecursion, list_any}
+use Rattle.std.proofs.Common.{◌≡◌, refl, sym, ap, ◌∙◌, subst, ℕ, Bool, true, false, List, Option, Some, None, Result, Ok, Err}
+use Rattle.std.specs.Prelude.{MatchOption}
+use Rattle.std.specs.List.{list_any}
 use Rattle.lk_report.specs.FileMap.{FileMap}
 use Rattle.lk_report.specs.declared.faults.UsageFault.{UsageFault}
-use Rattle.lk_report.specs.declared.statuses.LimitKind.TheVariants as limit
 use Rattle.lk_report.specs.declared.statuses.Status.{Status}
 use Rattle.lk_report.specs.declared.statuses.Status.TheVariants as status
 use Rattle.lk_report.specs.declared.statuses.Waiting.TheVariants as waiting
-use Rattle.lk_model.specs.Answers.{accepted_command, full_link, resolved_answer, static_answer}
-use Rattle.lk_model.specs.Inputs.{input_words, inputs_of}
+use Rattle.lk_model.specs.Answers.{resolved_answer, static_answer}
+use Rattle.lk_model.specs.Inputs.{inputs_of}
 use Rattle.lk_model.specs.Links.{IsFullLink, resolved_of}
 use Rattle.lk_model.specs.Resolving.{resolve}
 use Rattle.lk_model.specs.Views.{Input, Resolved}
@@ -21,7 +20,6 @@ use Rattle.lk_passes.specs.LookUps.{inputs_limit}
 use Rattle.lk_passes.specs.Refusals.{AreInputs, CommandInputs, inputs_refusal}
 use Rattle.lk_passes.specs.Told.{map_told}
 use Rattle.lk_passes.specs.declared.inputs.Inputs.{Inputs}
-use Rattle.lk_recorded.specs.CommandFits.{CommandFits}
 use Rattle.lk_driver.specs.ImageGiven.{ImageFirst, ImageGiven, ImageTold, IsAccepted, IsRefused, ReadGiven, status_of}
 use Rattle.lk_driver.specs.LinkAnswers.{LinkAnswers}
 use Rattle.lk_driver.specs.LinkStatuses.{IsLinkStatus}

@@ -1,6 +1,6 @@
 -- From a refusal of the words, or of the inputs as they are read, to what the passes before the commit answer.
-use Rattle.std.proofs.Common.{◌≡◌, refl, sym, ap, ◌∙◌, subst, ℕ, Bool, true, false, List, Option, Some, None, Result, Ok, Err}
-use Rattle.std.specs.Prelude.{Contains, IfSome, IsSome, MatchOption}
+use Rattle.std.proofs.Common.{◌≡◌, refl, sym, ap, ◌∙◌, subst, ℕ, List, Option, Some, None, Result, Ok, Err}
+use Rattle.std.specs.Prelude.{Contains, IsSome}
 use Rattle.lk_report.specs.FileMap.{FileMap}
 use Rattle.lk_report.specs.declared.faults.UsageFault.{UsageFault}
 use Rattle.lk_report.specs.declared.statuses.Status.{Status}
@@ -14,10 +14,10 @@ use Rattle.lk_passes.specs.AnswerLaws.{answer_unless}
 use Rattle.lk_passes.specs.Asked.{CommandAsked, IsOfReading, LimitFirst, StatusLast, StatusMisses, StatusNamed, all_places, look_ups_of, paths_read}
 use Rattle.lk_passes.specs.LookUps.{inputs_limit}
 use Rattle.lk_passes.specs.Refusals.{CommandInputs, inputs_refusal}
-use Rattle.lk_passes.specs.Told.{StatusCounts, map_told}
+use Rattle.lk_passes.specs.Told.{StatusCounts}
 use Rattle.lk_passes.specs.declared.inputs.Inputs.{Inputs}
 use Rattle.lk_driver.specs.ImageGiven.{ImageFirst, ImageGiven, IsAccepted, IsRefused, ReadGiven, WordsGive}
-use Rattle.lk_driver.specs.Outer.{AnswerIs, FilesKept, InputsAsked, IsDue, IsOfInputs, IsToldFirst, LastKept, MissingTold, NamesPlace, ReadFaultTold, StatusAsked, words_answer}
+use Rattle.lk_driver.specs.Outer.{AnswerIs, FilesKept, IsDue, IsOfInputs, IsToldFirst, LastKept, MissingTold, NamesPlace, ReadFaultTold, StatusAsked, words_answer}
 use Rattle.lk_driver.proofs.OuterAsked.{asked-nothing, if-some, map-known}
 use Rattle.lk_driver.proofs.OuterWords.{accepted-is, no-library, static-is, usage-decides, usage-static, wait-decides, wait-static, words-decide}
 

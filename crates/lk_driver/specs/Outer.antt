@@ -1,7 +1,7 @@
 -- What a link may answer and what it does to the outside (this project's own): the clauses of the top
 -- call, over the input files and the output device before and after it. The link itself is said by the
 -- general definitions: `static_answer` and `IsFullLink`.
-use Rattle.std.specs.Prelude.{◌≡◌, ℕ, List, Option, Some, None, Result, Ok, Err, IfSome, MatchOption, Contains}
+use Rattle.std.specs.Prelude.{◌≡◌, ℕ, List, Option, Some, None, Ok, Err, IfSome, MatchOption, Contains}
 use Rattle.std.specs.List.{list_any}
 use Rattle.lk_report.specs.FileMap.{FileMap}
 use Rattle.lk_report.specs.Spoken.{Rose}

@@ -46,7 +46,7 @@ fn has_library(words: &[Word]) -> bool
 }
 
 /// Whether an input, or a member of a lib group, is a library.
-fn names_library(item: &Item) -> bool
+fn item_has_library(item: &Item) -> bool
     ensures { result ≡ list_any is_library (words_in item.now) }
 {
     match item {
@@ -56,10 +56,10 @@ fn names_library(item: &Item) -> bool
 }
 
 /// Whether one of the inputs is a library.
-fn name_library(items: &[Item]) -> bool
+fn any_library(items: &[Item]) -> bool
     ensures { result ≡ list_any (λ item. list_any is_library (words_in item)) items.now }
 {
-    items.iter().any(|item| names_library(item))
+    items.iter().any(|item| item_has_library(item))
 }
 
 /// Whether a command waits: one that is to update an image, or that has a library among its inputs.
@@ -67,7 +67,7 @@ fn name_library(items: &[Item]) -> bool
 fn waits(command: &Command) -> bool
     ensures { result ≡ waits_words command.now }
 {
-    !is_full(command.mode) || name_library(command.items.as_slice())
+    !is_full(command.mode) || any_library(command.items.as_slice())
 }
 
 /// The command that words are, where a link of it can be begun.
