@@ -4,3 +4,4 @@ pub mod Committing
 pub mod Outer
 pub mod LinkPasses
 pub mod ScannedLinks
+pub mod ImageGiven

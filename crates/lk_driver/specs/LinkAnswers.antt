@@ -12,4 +12,5 @@ use Rattle.lk_model.specs.Views.{Resolved}
 abbrev pub LinkAnswers : Resolved → Result (List ℕ) Status → Type 0
 LinkAnswers r (Ok image) = (resolved_answer r ≡ full_link) × IsLinkAt r (full_place r) image
 LinkAnswers r (Err status.NoMemory) = Unit {0}
+LinkAnswers r (Err (status.Done how)) = ⊥
 LinkAnswers r (Err s) = resolved_answer r ≡ s

@@ -1,8 +1,8 @@
 -- What a link may answer and what it does to the outside (this project's own): the clauses of the top
 -- call, over the input files and the output device before and after it. The link itself is said by the
 -- general definitions: `static_answer` and `IsFullLink`.
-use Rattle.std.specs.Prelude.{◌≡◌, ℕ, List, Bool, true, false, Option, Some, None, Result, Ok, Err, IfSome, MatchOption}
-use Rattle.std.specs.List.{Contains, list_any}
+use Rattle.std.specs.Prelude.{◌≡◌, ℕ, List, Option, Some, None, Ok, Err, IfSome, MatchOption, Contains}
+use Rattle.std.specs.List.{list_any}
 use Rattle.lk_report.specs.FileMap.{FileMap}
 use Rattle.lk_report.specs.Spoken.{Rose}
 use Rattle.lk_report.specs.declared.statuses.LimitKind.TheVariants as limit
@@ -16,7 +16,7 @@ use Rattle.lk_model.specs.Links.{IsFullLink}
 use Rattle.lk_model.specs.declared.commands.Command.{Command}
 use Rattle.lk_outside.specs.Disk.{Disk}
 use Rattle.lk_outside.specs.Held.{Held}
-use Rattle.lk_passes.specs.Asked.{Asked, AskedSome, MissedMaybe, MissesTold, all_places, failed_told, is_missing, look_ups_of, paths_read}
+use Rattle.lk_passes.specs.Asked.{Asked, AskedSome, MissedMaybe, MissesTold, all_places, failed_told, is_missing, look_ups_of, paths_read, reads_before}
 use Rattle.lk_passes.specs.LookUps.{inputs_limit}
 use Rattle.lk_passes.specs.Told.{map_told}
 
@@ -108,11 +108,6 @@ DeviceKept old status.DeviceFault new = Unit {0}
 DeviceKept old other new = new ≡ old
 
 -- ---- what the files were asked for
-
--- the paths that are read before faults are told: none where an input is missing
-abbrev pub reads_before : Bool → Command → FileMap → List (List ℕ)
-reads_before true c there = []
-reads_before false c there = paths_read c there
 
 -- each place of an input is looked up in turn, up to the first that has a file, and then each input is read once, in
 -- command order. But inputs of which one is missing are not read; a limit, a failed call and want of memory end it.

@@ -1,0 +1,93 @@
+-- This project's own: what the passes before the commit answer, and what they do to the files.
+use Rattle.std.specs.Prelude.{◌≡◌, ◌≤◌, ℕ, false, Contains, IsSome, length, List, Option, Some, None, Result, Ok, Err, IfOk, IfSome, codes}
+use Rattle.std.specs.List.{AllByRecursion}
+use Rattle.lk_report.specs.FileMap.{FileMap}
+use Rattle.lk_report.specs.declared.statuses.Status.{Status}
+use Rattle.lk_report.specs.declared.statuses.Status.TheVariants as status
+use Rattle.lk_report.specs.declared.statuses.Waiting.TheVariants as waiting
+use Rattle.lk_model.specs.Answers.{full_link, words_wait}
+use Rattle.lk_model.specs.Grammar.{grammar}
+use Rattle.lk_model.specs.Inputs.{input_words}
+use Rattle.lk_model.specs.declared.commands.Command.{Command}
+use Rattle.lk_outside.specs.Held.{Held}
+use Rattle.lk_passes.specs.Asked.{AreSound, CommandAsked, IsOfReading, LimitFirst, StatusLast, StatusMisses, StatusNamed, all_places, has_library}
+use Rattle.lk_passes.specs.LookUps.{inputs_limit}
+use Rattle.lk_passes.specs.Refusals.{CommandInputs}
+use Rattle.lk_passes.specs.Told.{StatusCounts, map_told}
+use Rattle.lk_passes.specs.declared.input_files.InputFile.{InputFile}
+use Rattle.lk_passes.specs.declared.inputs.Inputs.{Inputs}
+use Rattle.lk_recorded.specs.CommandFits.{CommandFits}
+use Rattle.lk_driver.specs.Outer.{FilesKept, IsDue, IsImage, IsOfInputs, IsToldFirst, MissingTold, ReadFaultTold, words_answer}
+
+-- ---- words
+
+-- words are a command of which a link can be begun
+pub record IsAccepted (words : List (List ℕ)) (c : Command) : Type 0 where
+  pub is : grammar words ≡ Ok c
+  pub waits : words_wait c ≡ None
+  pub fits : CommandFits c
+
+-- the command that words are, where a link of it can be begun
+abbrev pub WordsGive : List (List ℕ) → Result Command Status → Type 0
+WordsGive words (Ok c) = IsAccepted words c
+WordsGive words (Err (status.Usage u)) = grammar words ≡ Err u
+WordsGive words (Err (status.NotYet waiting.Words)) = (c : Command) × (grammar words ≡ Ok c) × (words_wait c ≡ Some (status.NotYet waiting.Words))
+WordsGive words (Err status.NoMemory) = Unit {0}
+WordsGive words (Err _) = ⊥
+
+-- the output of refused words; none at any other status
+abbrev pub OutputUnless : {E : Type 0} → Status → Result (List ℕ) E → Type 0
+OutputUnless (status.Usage u) result = IfOk result (λ path. path ≡ codes "a.out")
+OutputUnless other result = IfOk result (λ path. ⊥)
+
+-- ---- the image
+
+-- the status that an image or a refusal leads to, where the device does not fail
+abbrev pub status_of : Result (List ℕ) Status → Status
+status_of (Ok image) = full_link
+status_of (Err s) = s
+
+-- a refusal says neither that the link is done nor that the device failed
+abbrev pub IsRefused : Result (List ℕ) Status → Type 0
+IsRefused (Err (status.Done how)) = ⊥
+IsRefused (Err status.DeviceFault) = ⊥
+IsRefused other = Unit {0}
+
+-- what words alone decide is told before anything is asked of the files, and nothing else is told so
+abbrev pub ImageFirst : Option Status → Held → Result (List ℕ) Status → Held → Type 0
+ImageFirst None old result new = IsOfInputs (status_of result)
+ImageFirst (Some due) old (Ok image) new = ⊥
+ImageFirst (Some due) old (Err s) new = IsToldFirst due s × (new ≡ old)
+
+-- where the files tell their map, an image is one of the words' command
+abbrev pub ImageTold : List (List ℕ) → Held → Result (List ℕ) Status → Type 0
+ImageTold words old (Ok image) = IfSome old.known (λ k. IsImage words k.map image)
+ImageTold words old (Err s) = Unit {0}
+
+-- the image of the words' command, or why there is none; and what was done to the files
+pub record ImageGiven (words : List (List ℕ)) (old : Held) (result : Result (List ℕ) Status) (new : Held) : Type 0 where
+  pub refused : IsRefused result
+  pub first : ImageFirst (words_answer words) old result new
+  pub due : IsDue words old (status_of result)
+  pub image : ImageTold words old result
+  pub fault : ReadFaultTold words old (status_of result) new
+  pub missing : MissingTold old (status_of result) new
+  pub kept : FilesKept (words_answer words) words old (status_of result) new
+
+-- ---- the inputs that are read
+
+-- what reading the inputs of a command answers, and what it does to the files
+pub record ReadGiven (c : Command) (old : Held) (result : Result Inputs Status) (new : Held) : Type 0 where
+  pub map : map_told new ≡ map_told old
+  pub told : (there : FileMap) → map_told old ≡ Some there → CommandInputs (inputs_limit c) c there result
+  pub faults : StatusCounts old result new
+  pub limit : IsSome (inputs_limit c) → new ≡ old
+  pub asked : (there : FileMap) → map_told old ≡ Some there → CommandAsked c there old result new
+  pub last : StatusLast old result new
+  pub misses : has_library (input_words c) ≡ false → StatusMisses old result new
+  pub named : StatusNamed (all_places c) result
+  pub kinds : IsOfReading c result
+  pub first : LimitFirst (inputs_limit c) result
+  pub sound : IfOk result AreSound
+  pub placed : IfOk result (λ inputs. AllByRecursion (λ (file : InputFile). Contains (all_places c) file.name.path) inputs.files)
+  pub few : IfOk result (λ inputs. length inputs.files ≤ 4096)
