@@ -2,3 +2,4 @@ pub mod LinkAnswers
 pub mod ReadInputs
 pub mod Committing
 pub mod Outer
+pub mod FileBytes
