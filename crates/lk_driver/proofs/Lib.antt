@@ -1,1 +1,3 @@
 pub mod InputsFitting
+pub mod PlacesClean
+pub mod CommandsRead
