@@ -1,3 +1,4 @@
 pub mod InputsFitting
 pub mod PlacesClean
 pub mod CommandsRead
+pub mod LinkStatuses

@@ -3,3 +3,4 @@ pub mod ReadInputs
 pub mod Committing
 pub mod Outer
 pub mod FileBytes
+pub mod LinkStatuses
