@@ -2,3 +2,4 @@ pub mod InputsFitting
 pub mod PlacesClean
 pub mod CommandsRead
 pub mod LinkStatuses
+pub mod FilesAsRead
