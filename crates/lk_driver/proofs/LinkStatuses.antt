@@ -1,6 +1,6 @@
 -- What is answered of the link of inputs that were read: it is done, or has faults of which none tells of a missing
 -- input, or waits, or exceeds a limit other than that on the number of inputs.
-use Rattle.std.proofs.Common.{◌≡◌, refl, ℕ, ◌+◌, ◌==◌, ◌^◌, Bool, true, false, ◌&&◌, ◌||◌, not, cond, if◌then◌else◌, List, [], ◌∷◌, ◌++◌, fold, flat_map, filter, filter_map, length, map, Option, Some, None}
+use Rattle.std.proofs.Common.{◌≡◌, refl, ℕ, ◌==◌, ◌^◌, Bool, true, false, ◌&&◌, ◌||◌, not, cond, if◌then◌else◌, List, [], ◌∷◌, ◌++◌, fold, flat_map, filter, filter_map, length, map, Option, Some, None}
 use Rattle.std.specs.Prelude.{nat_lt, slice_get, zip}
 use Rattle.std.specs.List.{AllByRecursion, cons_option, list_any}
 use Rattle.lk_report.specs.declared.faults.Fault.{Fault}
