@@ -6,3 +6,8 @@ pub mod OuterWords
 pub mod OuterAsked
 pub mod OuterRefused
 pub mod OuterLinked
+pub mod InputsFitting
+pub mod PlacesClean
+pub mod CommandsRead
+pub mod LinkStatuses
+pub mod FilesAsRead

@@ -5,3 +5,5 @@ pub mod Outer
 pub mod LinkPasses
 pub mod ScannedLinks
 pub mod ImageGiven
+pub mod FileBytes
+pub mod LinkStatuses

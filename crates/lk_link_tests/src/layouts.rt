@@ -294,6 +294,46 @@ fn sections_of_many_kinds_stand_as_in_a_linked_image(rt: HostRuntime) -> Result<
     Ok(())
 }
 
+/// An object with thread-local zeros alone.
+fn zeros_of_threads(alloc: Global) -> Result<InputSummary, NoMemory> {
+    let asked: [Asked; 1] = [(b".tbss.y", b".tbss", Class::Tbss, 12, 16)];
+    object(alloc, &asked, List::new(alloc))
+}
+
+/// The objects with sections of many kinds, and that one: a section of every class.
+fn every_class(alloc: Global) -> Result<SummaryList, NoMemory> {
+    let mut objects = many_kinds(alloc)?;
+    objects.push(zeros_of_threads(alloc)?)?;
+    Ok(objects)
+}
+
+/// The numbers of two images that this linker did not make, as `readelf -SW` prints them. One is of the objects with
+/// sections of many kinds: all rows but that of `.tbss` have its numbers, since thread-local zeros take no addresses.
+/// The other has `.tbss.y` of 12 bytes at 16 in it, as the only thread-local zeros: there `.tbss` has the alignment
+/// 16 and 0x40 bytes, and stands at the end of `.tdata` (there at 0x403000 with 0x80 bytes, and `.tbss` at 0x403080;
+/// here `.tdata` has 0x40), and the next section has the same address again.
+const EVERY_CLASS: [Told; 11] = [
+    (b".eh_frame", [0x401000, 0x1000, 0x40, 16]),
+    (b".text", [0x402000, 0x2000, 0x140, 32]),
+    (b".fini", [0x402140, 0x2140, 0x10, 16]),
+    (b".tdata", [0x403000, 0x3000, 0x40, 16]),
+    (b".tbss", [0x403040, 0x3040, 0x40, 16]),
+    (b".wx", [0x403040, 0x3040, 0x40, 16]),
+    (b".got", [0x4030c0, 0x30c0, 0, 16]),
+    (b".got.plt", [0x403100, 0x3100, 0x18, 16]),
+    (b".data", [0x403140, 0x3140, 0x40, 16]),
+    (b".bss", [0x403180, 0x3180, 0x40, 64]),
+    (b".debug_info", [0, 0x3180, 0x40, 16]),
+];
+
+#[test]
+fn a_section_of_every_class_stands_as_in_linked_images(rt: HostRuntime) -> Result<(), Fail> {
+    let objects = every_class(rt.alloc())?;
+    let place = laid_out(rt.alloc(), 10, &objects)??;
+    assert!(rt; are_rows(place.sections.as_slice(), &EVERY_CLASS));
+    Ok(())
+}
+
 #[test]
 fn functions_of_an_array_stand_by_their_numbers(rt: HostRuntime) -> Result<(), Fail> {
     let asked: [Asked; 4] = [
