@@ -1,6 +1,6 @@
 -- Bytes that are put at their places, one after another, are writes.
-use Rattle.std.proofs.Common.{◌≡◌, refl, sym, ap, subst, ◌∙◌, arith}
-use Rattle.std.specs.Prelude.{ℕ, ◌+◌, ◌≤◌, List, [], ◌∷◌, ◌++◌, length}
+use Rattle.std.proofs.Common.{◌≡◌, sym, ap, subst, ◌∙◌}
+use Rattle.std.specs.Prelude.{ℕ, ◌+◌, ◌≤◌, List, [], ◌∷◌, length}
 use Rattle.lk_model.specs.Amounts.{round_up}
 use Rattle.lk_model.specs.Images.{seal, seal_offset, stretch}
 use Rattle.lk_model.specs.LinkedBytes.{patch}

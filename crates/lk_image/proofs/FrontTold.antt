@@ -1,10 +1,9 @@
 -- The headers at the front are lk_model's, by the low bits of the entry's address.
 use Rattle.std.proofs.Common.{◌≡◌, refl, sym, ap, subst, ◌∙◌}
-use Rattle.std.specs.Prelude.{ℕ, ◌%◌, ◌^◌, ◌≤◌, ◌<◌, Bool, List, length, Some, Result, Ok, Err}
+use Rattle.std.specs.Prelude.{ℕ, ◌≤◌, ◌<◌, Bool, List, length, Some, Result, Ok, Err}
 use Rattle.lk_elf.specs.Records.{ehdr_bytes}
 use Rattle.lk_report.specs.declared.statuses.LimitFault.{LimitFault}
 use Rattle.lk_report.specs.declared.statuses.LimitKind.TheVariants as limit
-use Rattle.lk_report.specs.declared.statuses.Status.{Status}
 use Rattle.lk_report.specs.declared.statuses.Status.TheVariants as status
 use Rattle.lk_model.specs.FileHeader.{entry_value, exec_stack_of, header_bytes}
 use Rattle.lk_model.specs.Segments.{program_headers}
@@ -18,7 +17,7 @@ use Rattle.lk_headers.specs.Front.{FrontGives, front_bytes, front_header, up_to_
 use Rattle.lk_headers.specs.TailRows.{rows_of_parts}
 use Rattle.lk_headers.proofs.FieldBytes.{low-long}
 use Rattle.lk_headers.proofs.ModelRows.{front}
-use Rattle.lk_passes.proofs.AnswersTold.{above, below}
+use Rattle.lk_passes.proofs.AnswersTold.{above}
 use Rattle.lk_values.specs.Sections.{low_64}
 use Rattle.lk_image.specs.ImageAnswers.{FrontAnswers, front_status}
 

@@ -1,11 +1,11 @@
 -- What is answered of an image, step by step, is what lk_model says of it.
 use Rattle.std.proofs.Common.{◌≡◌, refl, sym, ap, subst, ◌∙◌}
-use Rattle.std.specs.Prelude.{ℕ, ◌^◌, ◌≤◌, Bool, List, length, map, Option, Some, None, Result, Ok, Err}
+use Rattle.std.specs.Prelude.{ℕ, ◌^◌, ◌≤◌, List, length, Option, None, Result, Ok, Err}
 use Rattle.lk_report.specs.declared.causes.OptionRecord.{OptionRecord}
 use Rattle.lk_report.specs.declared.statuses.LimitKind.TheVariants as limit
 use Rattle.lk_report.specs.declared.statuses.Status.{Status}
 use Rattle.lk_model.specs.Answers.{fault_status, image_length, length_with}
-use Rattle.lk_model.specs.FileHeader.{entry_value, exec_stack_of, header_bytes}
+use Rattle.lk_model.specs.FileHeader.{entry_value, exec_stack_of}
 use Rattle.lk_model.specs.Images.{stretches_of}
 use Rattle.lk_model.specs.Lawful.{Lawful}
 use Rattle.lk_model.specs.Overflows.{overflow_faults}
@@ -16,7 +16,6 @@ use Rattle.lk_model.specs.Views.{Input, Resolved}
 use Rattle.lk_model.specs.declared.layouts.Needs.{Needs}
 use Rattle.lk_model.specs.declared.layouts.Placement.{Placement}
 use Rattle.lk_model.specs.declared.summaries.InputSummary.{InputSummary}
-use Rattle.lk_headers.specs.Front.{up_to_seal}
 use Rattle.lk_linked.specs.Links.{IsLinked}
 use Rattle.lk_passes.proofs.AnswersTold.{below}
 use Rattle.lk_resolve.specs.Settling.{Settled}

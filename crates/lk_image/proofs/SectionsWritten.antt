@@ -1,6 +1,6 @@
 -- The sections of a link are written: its pieces and the fill of its holes, unless a value does not fit.
 use Rattle.std.proofs.Common.{◌≡◌, refl, sym, ap, ◌∙◌, arith}
-use Rattle.std.specs.Prelude.{ℕ, ◌+◌, ◌^◌, ◌<◌, ◌≤◌, Bool, true, false, if◌then◌else◌, cond, List, [], ◌∷◌, ◌++◌, length, Option, Some, None, Ok}
+use Rattle.std.specs.Prelude.{ℕ, ◌^◌, ◌<◌, ◌≤◌, Bool, true, false, if◌then◌else◌, cond, List, [], ◌∷◌, ◌++◌, length, Option, Some, None, Ok}
 use Rattle.std.specs.List.{enumerate_from, flat_map, slice_get, zip}
 use Rattle.lk_report.specs.declared.faults.Fault.{Fault}
 use Rattle.lk_model.specs.Answers.{fault_status, length_with}
@@ -16,7 +16,7 @@ use Rattle.lk_model.specs.declared.layouts.Placement.{Placement}
 use Rattle.lk_model.specs.declared.layouts.SectionRow.{SectionRow}
 use Rattle.lk_filled.specs.Filled.{CanBeFilled}
 use Rattle.lk_filled.specs.Filled as filled
-use Rattle.lk_laid.specs.Written.{fill_stretches, piece_stretches, placed_stretch, row_fill, stretch_in, written}
+use Rattle.lk_laid.specs.Written.{piece_stretches, placed_stretch, row_fill, stretch_in, written}
 use Rattle.lk_laid.proofs.LinkApart.{sections_end_within}
 use Rattle.lk_linked.specs.Written as linked
 use Rattle.lk_resolve.specs.Settling.{Settled}

@@ -1,11 +1,11 @@
 -- The tail that is put together is lk_model's.
-use Rattle.std.proofs.Common.{◌≡◌, refl, sym, ap, ◌∙◌}
-use Rattle.std.specs.Prelude.{ℕ, ◌+◌, ◌*◌, List, [], ◌∷◌, ◌++◌, length, map}
+use Rattle.std.proofs.Common.{◌≡◌, refl, ap, ◌∙◌}
+use Rattle.std.specs.Prelude.{ℕ, ◌+◌, List, [], ◌∷◌, ◌++◌, length, map}
 use Rattle.std.specs.List.{flat_map}
 use Rattle.lk_elf.specs.Records.{shdr_bytes}
 use Rattle.lk_model.specs.Amounts.{round_up}
 use Rattle.lk_model.specs.Answers.{length_with}
-use Rattle.lk_model.specs.FullPlace.{file_end, tail_start}
+use Rattle.lk_model.specs.FullPlace.{file_end}
 use Rattle.lk_model.specs.Tail.{Part, headers_offset, part_row, parts_end, parts_from, section_headers}
 use Rattle.lk_model.specs.declared.layouts.Placement.{Placement}
 use Rattle.lk_model.specs.declared.layouts.SectionRow.{SectionRow}

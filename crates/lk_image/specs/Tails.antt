@@ -1,6 +1,6 @@
 -- The tail of an image at its places (this project's own; gABI "Sections"), and what a link has once its records
 -- are made.
-use Rattle.std.specs.Prelude.{ℕ, List, map}
+use Rattle.std.specs.Prelude.{List, map}
 use Rattle.std.specs.List.{flat_map}
 use Rattle.lk_elf.specs.Records.{shdr_bytes}
 use Rattle.lk_model.specs.Answers.{length_with}
