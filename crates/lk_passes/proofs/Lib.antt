@@ -1,8 +1,15 @@
 pub mod CallsTold
+pub mod TurnsTaken
+pub mod CallsAsked
+pub mod KindsTold
 pub mod CandidatesJoined
 pub mod WordsSought
+pub mod PlacesAsked
+pub mod RowsTaken
+pub mod FilesAskedFor
 pub mod ItemsAdded
 pub mod InputsTold
+pub mod CommandsAsked
 pub mod AnswersTold
 pub mod PassesTold
 pub mod InputsMade

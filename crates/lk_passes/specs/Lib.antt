@@ -4,6 +4,7 @@ pub mod Candidates
 pub mod Named
 pub mod LookUps
 pub mod FilesRead
+pub mod Asked
 pub mod Adding
 pub mod Refusals
 pub mod Resolves

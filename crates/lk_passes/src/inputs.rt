@@ -1,7 +1,10 @@
 //! The inputs of a command: they are looked up, read, and read as objects.
 
-ghost use Rattle.std.specs.Prelude.{◌≡◌, ◌≤◌, ◌^◌, length, map, All, IsSome, Some, IfOk};
+ghost use Rattle.std.specs.Prelude.{◌≡◌, ◌≤◌, ◌^◌, false, length, map, All, Contains, IsSome, Some, IfOk};
+ghost use Rattle.std.specs.List.{AllByRecursion};
 ghost use Rattle.lk_report.specs.FileMap.{FileMap};
+ghost use Rattle.lk_model.specs.Inputs.{input_words};
+ghost use Rattle.lk_passes.specs.Asked.{AreSound, CommandAsked, FilesAsked, IsOfFiles, IsOfObjects, IsOfReading, LimitFirst, StatusLast, StatusMisses, StatusNamed, all_places, file_name, has_library, name_path, stats_told};
 ghost use Rattle.lk_passes.specs.FilesRead.{NamedGive, ObjectsGive, WaitGives};
 ghost use Rattle.lk_passes.specs.Named.{file_path};
 ghost use Rattle.lk_passes.specs.LookUps.{inputs_limit};
@@ -39,9 +42,11 @@ fn shared_wait(alloc: Global, files: &[InputFile]) -> Result<(), Status>
 }
 
 /// What a link keeps of files, none of which may be a shared object.
+#[tactic(auto, using(crate::proofs::KindsTold::objects_kinds))]
 fn objects_of(alloc: Global, files: &[InputFile]) -> Result<SummaryList, Status>
     requires { All (λ file. length file.bytes ≤ 2 ^ 26) files.now }
-    ensures { ObjectsGive files.now result }
+    ensures told { ObjectsGive files.now result }
+    ensures kinds { IsOfObjects result }
 {
     shared_wait(alloc, files)?;
     read_summaries(alloc, files)
@@ -63,6 +68,14 @@ fn read_named<F: Files>(
     ensures faults { StatusCounts (F.held files.old) result (F.held files.new) }
     ensures alike { IfOk result (λ inputs. length inputs.files ≡ length inputs.summaries) }
     ensures short { IfOk result (λ inputs. All (λ file. length file.bytes ≤ 2 ^ 26) inputs.files) }
+    ensures asked { FilesAsked (reads_told (F.held files.old)) (map name_path names) result (reads_told (F.held files.new)) }
+    ensures unlooked { stats_told (F.held files.new) ≡ stats_told (F.held files.old) }
+    ensures last { StatusLast (F.held files.old) result (F.held files.new) }
+    ensures misses { StatusMisses (F.held files.old) result (F.held files.new) }
+    ensures named { StatusNamed (map name_path names) result }
+    ensures kinds { IsOfFiles result }
+    ensures sound { IfOk result AreSound }
+    ensures names { IfOk result (λ inputs. map file_name inputs.files ≡ names) }
 {
     let inputs = read_inputs(alloc, names, files)?;
     let summaries = objects_of(alloc, inputs.as_slice())?;
@@ -90,6 +103,15 @@ pub fn read_command<F: Files>(
     ensures limit { IsSome (inputs_limit command.now) → F.held files.new ≡ F.held files.old }
     ensures alike { IfOk result (λ inputs. length inputs.files ≡ length inputs.summaries) }
     ensures short { IfOk result (λ inputs. All (λ file. length file.bytes ≤ 2 ^ 26) inputs.files) }
+    ensures asked { (there : FileMap) → map_told (F.held files.old) ≡ Some there → CommandAsked command.now there (F.held files.old) result (F.held files.new) }
+    ensures last { StatusLast (F.held files.old) result (F.held files.new) }
+    ensures misses { has_library (input_words command.now) ≡ false → StatusMisses (F.held files.old) result (F.held files.new) }
+    ensures named { StatusNamed (all_places command.now) result }
+    ensures kinds { IsOfReading command.now result }
+    ensures first { LimitFirst (inputs_limit command.now) result }
+    ensures sound { IfOk result AreSound }
+    ensures placed { IfOk result (λ inputs. AllByRecursion (λ file. Contains (all_places command.now) file.name.path) inputs.files) }
+    ensures few { IfOk result (λ inputs. length inputs.files ≤ 4096) }
 {
     let names = look_up_inputs(alloc, command, files)?;
     read_named(alloc, names, files)

@@ -1,7 +1,8 @@
 //! Looking for a file at one place after another.
 
-ghost use Rattle.std.specs.Prelude.{◌≡◌, Some, IfOk};
+ghost use Rattle.std.specs.Prelude.{◌≡◌, ◌∷◌, [], length, Contains, Some, IfOk, IfSome};
 ghost use Rattle.lk_report.specs.FileMap.{FileMap};
+ghost use Rattle.lk_passes.specs.Asked.{AskedInTurn, OneMisses, StatAsked, StatLast, StatMisses, UnreadLast, UnreadNamed, looked_up_to, stats_told};
 ghost use Rattle.lk_passes.specs.LookUps.{FirstPlaceTold, PlaceTold};
 ghost use Rattle.lk_passes.specs.Told.{IsFailed, StatCounts, StatTold, UnreadCounts, map_told, reads_told};
 
@@ -19,12 +20,15 @@ pub struct Place {
 }
 
 /// Looks a path up.
-#[tactic(auto, using(crate::proofs::CallsTold::stat_keeps, crate::proofs::CallsTold::stat_unread, crate::proofs::CallsTold::stat_tells, crate::proofs::CallsTold::stat_counts))]
+#[tactic(auto, using(crate::proofs::CallsTold::stat_keeps, crate::proofs::CallsTold::stat_unread, crate::proofs::CallsTold::stat_tells, crate::proofs::CallsTold::stat_counts, crate::proofs::CallsAsked::stat_asked, crate::proofs::CallsAsked::stat_last, crate::proofs::CallsAsked::stat_misses))]
 fn stat<F: Files>(files: &mut F, path: &Name) -> StatAnswer
     ensures kept { map_told (F.held files.new) ≡ map_told (F.held files.old) }
     ensures unread { reads_told (F.held files.new) ≡ reads_told (F.held files.old) }
     ensures told { (there : FileMap) → map_told (F.held files.old) ≡ Some there → StatTold there path.now result }
     ensures faults { StatCounts (F.held files.old) path.now result (F.held files.new) }
+    ensures asked { StatAsked (stats_told (F.held files.old)) path.now result (stats_told (F.held files.new)) }
+    ensures last { StatLast (F.held files.old) result (F.held files.new) }
+    ensures misses { StatMisses (F.held files.old) result (F.held files.new) }
 {
     files.stat(path)
 }
@@ -53,6 +57,11 @@ fn look_at<F: Files>(alloc: Global, path: &Name, files: &mut F) -> Result<Option
     ensures unread { reads_told (F.held files.new) ≡ reads_told (F.held files.old) }
     ensures told { (there : FileMap) → map_told (F.held files.old) ≡ Some there → PlaceTold there path.now result }
     ensures faults { UnreadCounts (F.held files.old) result (F.held files.new) }
+    ensures asked { AskedInTurn (stats_told (F.held files.old)) (path.now ∷ []) result (stats_told (F.held files.new)) }
+    ensures last { UnreadLast (F.held files.old) result (F.held files.new) }
+    ensures misses { OneMisses (F.held files.old) result (F.held files.new) }
+    ensures named { UnreadNamed (path.now ∷ []) result }
+    ensures placed { IfOk result (λ found. IfSome found (λ place. place.path ≡ path.now)) }
 {
     match stat(files, path) {
         StatAnswer::Found(stamp) => Ok(Some(place_at(alloc, path, stamp)?)),
@@ -75,6 +84,11 @@ pub fn first_place<F: Files>(
     ensures unread { reads_told (F.held files.new) ≡ reads_told (F.held files.old) }
     ensures told { (there : FileMap) → map_told (F.held files.old) ≡ Some there → FirstPlaceTold there places.now result }
     ensures faults { UnreadCounts (F.held files.old) result (F.held files.new) }
+    ensures asked { (there : FileMap) → map_told (F.held files.old) ≡ Some there → AskedInTurn (stats_told (F.held files.old)) (looked_up_to there places.now) result (stats_told (F.held files.new)) }
+    ensures last { UnreadLast (F.held files.old) result (F.held files.new) }
+    ensures misses { length places.now ≡ 1 → OneMisses (F.held files.old) result (F.held files.new) }
+    ensures named { UnreadNamed places.now result }
+    ensures placed { IfOk result (λ found. IfSome found (λ place. Contains places.now place.path)) }
 {
     for path in places {
         if let Some(place) = look_at(alloc, path, files)? {

@@ -1,7 +1,8 @@
 //! Reading the files of inputs, each once and whole, up to the limits on their sizes.
 
-ghost use Rattle.std.specs.Prelude.{◌≡◌, ◌≤◌, ◌^◌, ◌+◌, ◌∷◌, [], length, map, All, Some, IfOk, OnOk};
+ghost use Rattle.std.specs.Prelude.{◌≡◌, ◌≤◌, ◌^◌, ◌+◌, ◌∷◌, [], length, map, All, Some, IfErr, IfOk, OnOk};
 ghost use Rattle.lk_report.specs.FileMap.{FileMap};
+ghost use Rattle.lk_passes.specs.Asked.{AskedInTurn, IsOfReads, ReadAsked, ReadLast, ReadMisses, StatusLast, StatusMisses, StatusNamed, file_name, name_path, stats_told};
 ghost use Rattle.lk_passes.specs.Named.{file_path};
 ghost use Rattle.lk_passes.specs.FilesRead.{ContentTold, IsGone, ReadsGive, SizeGives};
 ghost use Rattle.lk_passes.specs.Told.{ReadCounts, ReadNoted, ReadTold, StatusCounts, map_told, reads_told, reads_with};
@@ -29,6 +30,7 @@ fn total_with(before: u64, length: u64) -> Result<u64, LimitFault>
     ensures total { SizeGives before length result }
     ensures short { IfOk result (λ total. total ≤ 2 ^ 30) }
     ensures each { OnOk result (length ≤ 2 ^ 26) }
+    ensures sizes { IfErr result (λ l. l.which ≡ LimitKind.Inputs → ⊥) }
 {
     if length > MOST_BYTES {
         return Err(LimitFault {
@@ -67,12 +69,16 @@ fn gone_status(alloc: Global, path: &Name) -> Status
 }
 
 /// Reads the file of a path.
-#[tactic(auto, using(crate::proofs::CallsTold::read_keeps, crate::proofs::CallsTold::read_noted_as, crate::proofs::CallsTold::read_tells, crate::proofs::CallsTold::read_counts))]
+#[tactic(auto, using(crate::proofs::CallsTold::read_keeps, crate::proofs::CallsTold::read_noted_as, crate::proofs::CallsTold::read_tells, crate::proofs::CallsTold::read_counts, crate::proofs::CallsAsked::read_asked, crate::proofs::CallsAsked::read_unlooked, crate::proofs::CallsAsked::read_last, crate::proofs::CallsAsked::read_misses))]
 fn read<F: Files>(files: &mut F, path: &Name) -> ReadAnswer
     ensures kept { map_told (F.held files.new) ≡ map_told (F.held files.old) }
     ensures noted { ReadNoted (F.held files.old) path.now result (F.held files.new) }
     ensures told { (there : FileMap) → map_told (F.held files.old) ≡ Some there → ReadTold there path.now result }
     ensures faults { ReadCounts (F.held files.old) path.now result (F.held files.new) }
+    ensures asked { ReadAsked (reads_told (F.held files.old)) path.now result (reads_told (F.held files.new)) }
+    ensures unlooked { stats_told (F.held files.new) ≡ stats_told (F.held files.old) }
+    ensures last { ReadLast (F.held files.old) result (F.held files.new) }
+    ensures misses { ReadMisses (F.held files.old) result (F.held files.new) }
 {
     files.read(path)
 }
@@ -86,6 +92,12 @@ fn read_file<F: Files>(alloc: Global, path: &Name, files: &mut F) -> Result<Byte
     ensures noted { OnOk result (reads_told (F.held files.new) ≡ reads_with (path.now ∷ []) (reads_told (F.held files.old))) }
     ensures told { (there : FileMap) → map_told (F.held files.old) ≡ Some there → ContentTold there path.now result }
     ensures faults { StatusCounts (F.held files.old) result (F.held files.new) }
+    ensures asked { AskedInTurn (reads_told (F.held files.old)) (path.now ∷ []) result (reads_told (F.held files.new)) }
+    ensures unlooked { stats_told (F.held files.new) ≡ stats_told (F.held files.old) }
+    ensures last { StatusLast (F.held files.old) result (F.held files.new) }
+    ensures misses { StatusMisses (F.held files.old) result (F.held files.new) }
+    ensures named { StatusNamed (path.now ∷ []) result }
+    ensures kinds { IsOfReads result }
 {
     match read(files, path) {
         ReadAnswer::Got(bytes) => Ok(bytes),
@@ -110,6 +122,13 @@ pub fn read_inputs<F: Files>(
     ensures reads { IfOk result (λ inputs. reads_told (F.held files.new) ≡ reads_with (map file_path inputs) (reads_told (F.held files.old))) }
     ensures told { (there : FileMap) → map_told (F.held files.old) ≡ Some there → ReadsGive there names result }
     ensures faults { StatusCounts (F.held files.old) result (F.held files.new) }
+    ensures asked { AskedInTurn (reads_told (F.held files.old)) (map name_path names) result (reads_told (F.held files.new)) }
+    ensures unlooked { stats_told (F.held files.new) ≡ stats_told (F.held files.old) }
+    ensures last { StatusLast (F.held files.old) result (F.held files.new) }
+    ensures misses { StatusMisses (F.held files.old) result (F.held files.new) }
+    ensures named { StatusNamed (map name_path names) result }
+    ensures kinds { IsOfReads result }
+    ensures names { IfOk result (λ inputs. map file_name inputs ≡ names) }
     ensures short { IfOk result (λ inputs. All (λ input. length input.bytes ≤ 2 ^ 26) inputs) }
 {
     let mut inputs = List::new(alloc);

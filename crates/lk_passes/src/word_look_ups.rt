@@ -1,8 +1,10 @@
 //! Looking the words of inputs up: which inputs are there, and which are not.
 
-ghost use Rattle.std.specs.Prelude.{◌≡◌, nat_lt, length, None, Some, IsSome, IfOk, OnOk};
+ghost use Rattle.std.specs.Prelude.{◌≡◌, ◌≤◌, false, nat_lt, length, Contains, None, Some, IsSome, IfOk, IfSome, OnOk};
+ghost use Rattle.std.specs.List.{AllByRecursion};
 ghost use Rattle.lk_report.specs.FileMap.{FileMap};
-ghost use Rattle.lk_model.specs.Inputs.{missing_path};
+ghost use Rattle.lk_model.specs.Inputs.{input_words, missing_path};
+ghost use Rattle.lk_passes.specs.Asked.{AskedInTurn, IsOfReading, LimitFirst, LookUpsAsked, OneMisses, StatusLast, StatusMisses, StatusNamed, UnreadLast, UnreadNamed, WordsMiss, all_places, has_library, look_ups_of, stats_told, word_look_ups, word_places, words_look_ups, words_places};
 ghost use Rattle.lk_passes.specs.LookUps.{LookUpsGive, SoughtGives, WordTold, WordsTold, inputs_limit};
 ghost use Rattle.lk_passes.specs.Named.{word_seen, words_seen};
 ghost use Rattle.lk_passes.specs.Told.{StatusCounts, UnreadCounts, map_told, reads_told};
@@ -52,6 +54,11 @@ fn look_up<F: Files>(
     ensures unread { reads_told (F.held files.new) ≡ reads_told (F.held files.old) }
     ensures told { (there : FileMap) → map_told (F.held files.old) ≡ Some there → WordTold command.now there (word_seen row.entry) result }
     ensures faults { UnreadCounts (F.held files.old) result (F.held files.new) }
+    ensures asked { (there : FileMap) → map_told (F.held files.old) ≡ Some there → AskedInTurn (stats_told (F.held files.old)) (word_look_ups command.now there (word_seen row.entry)) result (stats_told (F.held files.new)) }
+    ensures last { UnreadLast (F.held files.old) result (F.held files.new) }
+    ensures misses { row.entry.word.now.library ≡ false → OneMisses (F.held files.old) result (F.held files.new) }
+    ensures named { UnreadNamed (word_places command.now (word_seen row.entry)) result }
+    ensures placed { IfOk result (λ found. IfSome found (λ name. Contains (word_places command.now (word_seen row.entry)) name.path)) }
 {
     let places = places_of(alloc, command, row.word)?;
     match first_place(alloc, places.as_slice(), files)? {
@@ -79,6 +86,12 @@ fn look_up_words<F: Files>(
     ensures unread { reads_told (F.held files.new) ≡ reads_told (F.held files.old) }
     ensures told { (there : FileMap) → map_told (F.held files.old) ≡ Some there → WordsTold command.now there (words_seen rows.now) result }
     ensures faults { UnreadCounts (F.held files.old) result (F.held files.new) }
+    ensures asked { (there : FileMap) → map_told (F.held files.old) ≡ Some there → AskedInTurn (stats_told (F.held files.old)) (words_look_ups command.now there (words_seen rows.now)) result (stats_told (F.held files.new)) }
+    ensures last { UnreadLast (F.held files.old) result (F.held files.new) }
+    ensures misses { has_library (words_seen rows.now) ≡ false → WordsMiss (λ sought. sought.missing) (F.held files.old) result (F.held files.new) }
+    ensures named { UnreadNamed (words_places command.now (words_seen rows.now)) result }
+    ensures placed { IfOk result (λ sought. AllByRecursion (λ name. Contains (words_places command.now (words_seen rows.now)) name.path) sought.names) }
+    ensures within { IfOk result (λ sought. length sought.names ≤ length rows.now) }
 {
     let mut names = List::new(alloc);
     let mut faults = List::new(alloc);
@@ -128,6 +141,14 @@ pub fn look_up_inputs<F: Files>(
     ensures faults { StatusCounts (F.held files.old) result (F.held files.new) }
     ensures limit { IsSome (inputs_limit command.now) → F.held files.new ≡ F.held files.old }
     ensures few { OnOk result (inputs_limit command.now ≡ None) }
+    ensures asked { (there : FileMap) → map_told (F.held files.old) ≡ Some there → LookUpsAsked (stats_told (F.held files.old)) (look_ups_of command.now there) result (stats_told (F.held files.new)) }
+    ensures last { StatusLast (F.held files.old) result (F.held files.new) }
+    ensures misses { has_library (input_words command.now) ≡ false → StatusMisses (F.held files.old) result (F.held files.new) }
+    ensures named { StatusNamed (all_places command.now) result }
+    ensures kinds { IsOfReading command.now result }
+    ensures first { LimitFirst (inputs_limit command.now) result }
+    ensures placed { IfOk result (λ names. AllByRecursion (λ name. Contains (all_places command.now) name.path) names) }
+    ensures within { IfOk result (λ names. length names ≤ 4096) }
 {
     let Ok(rows) = input_words(alloc, command.items.as_slice()) else {
         return Err(Status::NoMemory);
