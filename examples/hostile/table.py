@@ -19,7 +19,7 @@ TABLES = b".interp .hash .dynsym .dynstr .rela.dyn .rela.plt .plt .dynamic .got 
 TAIL = [b".symtab", b".strtab", b".shstrtab"]
 TAIL += [b".gnu_incremental_" + part for part in (b"inputs", b"symtab", b"relocs", b"got_plt", b"strtab")]
 WIDTHS = {1: 8, 2: 4, 4: 4, 9: 4, 10: 4, 11: 4, 12: 2, 13: 2, 14: 1, 15: 1, 17: 8, 18: 8, 21: 4, 22: 4, 23: 4,
-          24: 8, 25: 8, 26: 4, 32: 4, 33: 8}
+          24: 8, 25: 8, 26: 4, 32: 4, 33: 8, 41: 4, 42: 4}
 
 
 class Section:
