@@ -1,6 +1,8 @@
 -- This project's own: which of the system's errors is told, and of which path.
-use Rattle.std.specs.Prelude.{◌≡◌, ℕ, List, codes, IsUtf8, Option, Some, None, option_map}
+use Rattle.std.specs.Prelude.{◌≡◌, ℕ, List, codes, IsUtf8, Option, None, option_map}
 use Rattle.std.specs.declared.io.Error.{Error}
+use Rattle.lk_report.specs.declared.statuses.Status.{Status}
+use Rattle.lk_report.specs.declared.statuses.Status.TheVariants as status
 
 -- the path as a text: itself, where it is one
 abbrev pub IsTextOf : List ℕ → List ℕ → Type 0
@@ -10,8 +12,9 @@ IsTextOf path text = (IsUtf8 path → text ≡ path) × (¬ (IsUtf8 path) → te
 abbrev pub told_of : List ℕ → Option Error → Option (List ℕ × Error)
 told_of path error = option_map (λ e. (path, e)) error
 
--- an error of a read is told of the IN of the words, one of the output of their OUT; of other words
--- nothing is told
-abbrev pub reasons_in : Option (List ℕ × List ℕ) → Option Error → Option Error → Option (List ℕ × Error) × Option (List ℕ × Error)
-reasons_in None read written = (None, None)
-reasons_in (Some words) read written = (told_of words.1 read, told_of words.0 written)
+-- where a link ended with a failed read, that error is told of the path that the status names; where it ended with
+-- a failed device, that of the device is told of the output; else nothing is told
+abbrev pub reason_in : Status → List ℕ → Option Error → Option Error → Option (List ℕ × Error)
+reason_in (status.ReadFault path) output read written = told_of path read
+reason_in status.DeviceFault output read written = told_of output written
+reason_in other output read written = None

@@ -12,9 +12,9 @@ mod reasons;
 use arguments::{Arguments, arguments_of};
 use lk_driver::{output_of, run_alone};
 use lk_outside::{FreeTurnstile, HostDevice, HostFiles, HostSink};
-use lk_report::{NameList, Status, Waiting, say};
+use lk_report::{Name, NameList, NoMemory, Status, Waiting, say};
 use notices::notice_of;
-use reasons::{Reason, reasons_of, text_of};
+use reasons::{Reason, reason_of, text_of};
 use std::env;
 use std::process::ExitCode;
 
@@ -31,11 +31,19 @@ fn main(rt: HostRuntime) -> ExitCode {
 
 /// Links what the words ask for.
 fn link(rt: HostRuntime, words: &NameList) -> ExitCode {
-    let Ok(output) = output_of(rt.alloc(), words) else {
+    match output_of(rt.alloc(), words) {
+        Ok(output) => link_to(rt, words, &output),
+        Err(NoMemory) => end(rt, &Status::NoMemory),
+    }
+}
+
+/// Links what the words ask for to the output that they name.
+fn link_to(rt: HostRuntime, words: &NameList, output: &Name) -> ExitCode {
+    let Ok(path) = output.copy(rt.alloc()) else {
         return end(rt, &Status::NoMemory);
     };
     let mut files = HostFiles::new(rt);
-    let mut out = HostDevice::at(rt, output);
+    let mut out = HostDevice::at(rt, path);
     let mut says = HostSink::new(rt);
     let status = run_alone(
         rt.alloc(),
@@ -45,9 +53,10 @@ fn link(rt: HostRuntime, words: &NameList) -> ExitCode {
         &mut says,
         &FreeTurnstile,
     );
-    let reasons = reasons_of(words, files.last_error(), out.last_error());
-    say_reason(rt, reasons.read);
-    say_reason(rt, reasons.written);
+    say_reason(
+        rt,
+        reason_of(&status, output, files.last_error(), out.last_error()),
+    );
     ExitCode::from(status.exit_code())
 }
 

@@ -7,19 +7,25 @@ use lk_report::NameList;
 
 /// What `--help` prints.
 const HELP: &str = "\
-usage: lk_ld --incremental-full -o OUT IN
+usage: lk_ld [OPTION ..] IN .. [--start-lib IN .. --end-lib]
        lk_ld --help | --version
 
-Links the x86-64 object file IN into a program, and writes it to OUT.
+Links the x86-64 object files IN into a static program. An object between
+--start-lib and --end-lib is linked where it defines a name that is wanted.
 
-IN is a relocatable ELF file with one `.text`, its relocations (R_X86_64_64,
-PC32, PC64) and symbols, and nothing else that is loaded; it defines `_start`.
-Other words and other files are answered with `not built yet`.
+  -o OUT                  where the program goes (a.out)
+  -e NAME, --entry=NAME   the symbol at which it begins (_start)
+  --incremental-patch=N   the free room in its sections, 0 to 500 percent (10)
 
-One line on standard output says how the link ended, and the exit status is
+Libraries (-l), shared objects, updates (--incremental, --incremental-update)
+and references by way of a table of addresses (GOT, PLT of shared functions)
+are answered with `not built yet`.
+
+One line on standard output says how the link ended, or one for each fault,
+and the exit status is
 0 linked                  3 a file cannot be read     6 a limit is exceeded
-1 faults of the input     4 the output failed         7 not updated
-2 faulty words            5 no memory                 8 not built yet
+1 faults of the inputs    4 the output failed         7 not updated
+2 a faulty word           5 no memory                 8 not built yet
 Where the system refused a file, standard error has its reason.
 ";
 

@@ -1,0 +1,6 @@
+#include "shape.hpp"
+
+extern "C" long second_square(long side)
+{
+    return square(side);
+}
