@@ -16,13 +16,13 @@ returns-in_err-scanned c = λ xs are sound.
     let p = err_from_is_err_and c.from_residual-in_err-scanned.result c.from_residual-in_err-scanned.ensures.1 in
     let found = c.in_ok-resolution.ensures.settled xs (c.as_slice.ensures ∙ are.files) (c.as_slice-2.ensures ∙ are.summaries) in
     subst (InputsLaid (resolve c.args.command.now.options xs)) (sym p.1)
-    (unscanned_told c.args.command.now.options xs c.in_ok-resolution.resolution c.args.inputs.files c.in_err-scanned.field-0.0 p.0 found (c.in_err-scanned.ensures c.args.command.now.options xs are.files sound found.2) p.2)
+    (unscanned_told c.args.command.now.options xs c.in_ok-resolution.resolution c.args.inputs.files c.in_err-scanned.field-0.0 p.0 found (c.in_err-scanned.ensures.scanned c.args.command.now.options xs are.files sound found.2) p.2)
 
 pub returns-in_err-placement : goal.returns-in_err-placement
 returns-in_err-placement c = λ xs are sound.
     let p = err_from_is_err_and c.from_residual-in_err-placement.result c.from_residual-in_err-placement.ensures.1 in
     let found = c.in_ok-resolution.ensures.settled xs (c.as_slice.ensures ∙ are.files) (c.as_slice-2.ensures ∙ are.summaries) in
-    let scanned = c.in_ok-scanned.ensures c.args.command.now.options xs are.files sound found.2 in
+    let scanned = c.in_ok-scanned.ensures.scanned c.args.command.now.options xs are.files sound found.2 in
     let given = inputs_given c.args.command.now.options xs c.in_ok-resolution.resolution c.args.inputs.files c.args.inputs.summaries c.in_ok-scanned.scanned are.summaries found scanned in
     subst (InputsLaid (resolve c.args.command.now.options xs)) (sym p.1)
     (unlaid_told c.args.command.now.options xs c.in_ok-resolution.resolution c.args.inputs.files c.in_ok-scanned.scanned c.in_err-placement.field-0.0 p.0 found scanned (c.in_err-placement.ensures.placed xs given) p.2)
@@ -30,6 +30,6 @@ returns-in_err-placement c = λ xs are sound.
 pub returns : goal.returns
 returns c = λ xs are sound.
     let found = c.in_ok-resolution.ensures.settled xs (c.as_slice.ensures ∙ are.files) (c.as_slice-2.ensures ∙ are.summaries) in
-    let scanned = c.in_ok-scanned.ensures c.args.command.now.options xs are.files sound found.2 in
+    let scanned = c.in_ok-scanned.ensures.scanned c.args.command.now.options xs are.files sound found.2 in
     let given = inputs_given c.args.command.now.options xs c.in_ok-resolution.resolution c.args.inputs.files c.args.inputs.summaries c.in_ok-scanned.scanned are.summaries found scanned in
     laid_told c.args.command.now.options xs c.in_ok-resolution.resolution c.args.inputs.files c.in_ok-scanned.scanned c.in_ok-placement.placement found scanned (c.in_ok-placement.ensures.placed xs given)
