@@ -1,0 +1,235 @@
+#!/usr/bin/env python3
+"""Links programs of many objects with lk_ld and with the linkers that are installed, and prints what each link costs.
+
+    bench/compare.py                          # small objects, 2,000 and 4,000, and 300 large ones, with all linkers
+    bench/compare.py --install                # installs GNU ld, gold, lld and mold first where they are missing (apt-get)
+    bench/compare.py --rounds 3 small:500     # one program of 500 small objects, three rounds
+    bench/compare.py --linker PATH --folder DIR --skip ld.bfd large:300
+
+README.md beside this file says what the columns are. Ends with 1 where a link failed, where a program did not end as
+it must, or where a bar (docs/PERFORMANCE.md) is missed. Needs python3 alone.
+"""
+import argparse, collections, os, platform, shutil, statistics, subprocess, sys, tempfile, time
+
+sys.dont_write_bytecode = True     # a run leaves the checkout as it was
+from elf import Run, apart, timed
+from programs import STATUS, make_large, make_small
+
+HERE = os.path.dirname(os.path.abspath(__file__))
+OURS, GOLD, LLD = 'lk_ld', 'gold', 'lld, 1 thread'
+FLOOR, SYNC = 'floor', 'one sync'
+
+Linker = collections.namedtuple('Linker', 'name program options package')
+OTHERS = (
+    Linker('bfd', 'ld.bfd', [], 'binutils'),
+    Linker(GOLD, 'ld.gold', [], 'binutils'),
+    Linker('gold, incremental', 'ld.gold', ['--incremental-full', '-z', 'norelro'], 'binutils'),
+    Linker(LLD, 'ld.lld', ['--threads=1'], 'lld'),
+    Linker('lld', 'ld.lld', [], 'lld'),
+    Linker('mold, 1 thread', 'mold', ['--no-fork', '--thread-count=1'], 'mold'),
+    Linker('mold', 'mold', ['--no-fork'], 'mold'))
+
+
+def install():
+    """Installs the packages of the linkers that are not there."""
+    packages = sorted({l.package for l in OTHERS if not shutil.which(l.program)})
+    words = ['apt-get', 'install', '-y'] + packages
+    if packages and subprocess.run(words).returncode != 0:
+        subprocess.run(['apt-get', 'update'])
+        subprocess.run(words)
+
+
+def installed(own, skipped):
+    """Our linker and those of the others that are there, without those to be skipped."""
+    found = [Linker(OURS, own, ['--no-threads'], '')]
+    for linker in OTHERS:
+        if linker.program in skipped:
+            continue
+        if shutil.which(linker.program):
+            found.append(linker)
+        else:
+            print('not installed: %s (package %s; --install brings it)' % (linker.program, linker.package))
+    return found
+
+
+def version(program):
+    return subprocess.run([program, '--version'], capture_output=True, text=True).stdout.splitlines()[0]
+
+
+def look_up_read_write(folder, files, size, image):
+    """What every linker does at least: each input is looked up, each is read whole, the image is written once."""
+    buffer = memoryview(bytearray(max(size, 1 << 20)))
+    for name in files:
+        os.stat(os.path.join(folder, name))
+    for name in files:
+        with open(os.path.join(folder, name), 'rb', buffering=0) as f:
+            while f.readinto(buffer):
+                pass
+    with open(image, 'wb', buffering=0) as f:
+        done = 0
+        while done < size:
+            done += f.write(buffer[done:size])
+
+
+def floor(folder, files, size, image):
+    """The floor as a run, and then one sync of what it wrote."""
+    start = time.monotonic()
+    pid = os.fork()
+    if pid == 0:
+        look_up_read_write(folder, files, size, image)
+        os._exit(0)
+    _, code, used = os.wait4(pid, 0)
+    run = Run('', code, time.monotonic() - start, used.ru_utime + used.ru_stime, used.ru_maxrss, used.ru_oublock * 512)
+    start = time.monotonic()
+    with open(image, 'rb') as f:
+        os.fsync(f.fileno())
+    return run, Run('', 0, time.monotonic() - start, 0.0, 0, 0)
+
+
+def link(linker, folder, files, image):
+    """One link into a file that is not there yet."""
+    if os.path.exists(image):
+        os.remove(image)
+    return timed([linker.program] + linker.options + ['-o', image] + files, folder)
+
+
+class Case:
+    """A program, its inputs in a folder, and the runs of each linker on it."""
+
+    def __init__(self, what, folder):
+        kind, _, number = what.partition(':')
+        self.what, self.kind, self.number, self.folder = what, kind, int(number), os.path.join(folder, what.replace(':', ''))
+        make = {'small': make_small, 'large': make_large}[kind]
+        os.mkdir(self.folder)
+        apart(make, self.folder, self.number)
+        self.files = ['%s%d.o' % (kind[0], i) for i in range(self.number)]
+        self.bytes = sum(os.path.getsize(os.path.join(self.folder, f)) for f in self.files)
+        self.runs, self.images, self.good = collections.OrderedDict(), {}, True
+
+    def add(self, name, run):
+        self.runs.setdefault(name, []).append(run)
+
+    def round(self, linkers, turn):
+        """Each linker once, another one first in each round; then the floor, for an image as long as ours."""
+        start = turn % len(linkers)
+        for linker in linkers[start:] + linkers[:start]:
+            image = os.path.join(self.folder, 'image')
+            run = link(linker, self.folder, self.files, image)
+            if run.status != 0:
+                print('%s: %s ended with %d: %s' % (self.what, linker.name, run.status, run.said[:300]))
+                self.good = False
+                continue
+            self.add(linker.name, run)
+            if linker.name not in self.images:
+                self.images[linker.name] = os.path.getsize(image)
+                self.check(linker, image)
+        if OURS in self.images:
+            for name, run in zip((FLOOR, SYNC), floor(self.folder, self.files, self.images[OURS], image)):
+                self.add(name, run)
+        os.path.exists(image) and os.remove(image)
+
+    def check(self, linker, image):
+        """The program runs, and ends as it must."""
+        status = subprocess.run([image]).returncode
+        if status != STATUS:
+            print('%s: the program of %s ended with %d, not with %d' % (self.what, linker.name, status, STATUS))
+            self.good = False
+
+    def median(self, name, field):
+        return statistics.median(getattr(run, field) for run in self.runs[name])
+
+    def ratio(self, name, other, field):
+        return self.median(name, field) / max(self.median(other, field), 1e-9)
+
+    def unsynced(self, name):
+        """Seconds by the clock, without the sync that our link has."""
+        sync = self.median(SYNC, 'seconds') if name == OURS else 0.0
+        return self.median(name, 'seconds') - sync
+
+    def table(self, linkers):
+        print('\n%s: %d inputs, %.1f MB' % (self.what, self.number, self.bytes / 1e6))
+        print('| %-17s | %9s | %7s | %9s | %7s | %9s | %9s | %10s |' % (
+            'linker', 'processor', 'to gold', 'clock', 'to gold', 'peak', 'image', 'written'))
+        print('|%s|' % '|'.join(['---'] + ['---:'] * 7))
+        names = [l.name for l in linkers if l.name in self.runs]
+        for name in names + [n for n in (FLOOR, SYNC) if n in self.runs]:
+            against = ['%.2f' % self.ratio(name, GOLD, f) if GOLD in self.runs else '' for f in ('processor', 'seconds')]
+            size = self.images.get(name)
+            print('| %-17s | %7.3f s | %7s | %7.3f s | %7s | %5.0f MiB | %9s | %10s |' % (
+                name, self.median(name, 'processor'), against[0], self.median(name, 'seconds'), against[1],
+                self.median(name, 'peak') / 1024, '%.2f MB' % (size / 1e6) if size else '',
+                '%.2f MB' % (self.median(name, 'written') / 1e6)))
+        spread = ', '.join('%s %.3f to %.3f' % (n, min(r.processor for r in self.runs[n]), max(r.processor for r in self.runs[n]))
+                           for n in names if n in (OURS, GOLD, LLD))
+        print('processor time from least to most: %s' % spread)
+
+
+def bar(what, figure, most, must=True):
+    """A line about a bar, and whether it is no reason to end with 1."""
+    good = figure <= most
+    print('%-7s %s: %.2f of at most %.2f' % ('met' if good else 'missed' if must else 'goal', what, figure, most))
+    return good or not must
+
+
+def bars(cases):
+    """What is asked of our link: bars, which must be met, and goals."""
+    good = True
+    by = {case.what: case for case in cases}
+    small, double = by.get('small:2000'), by.get('small:4000')
+    if small and {OURS, GOLD} <= small.runs.keys():
+        good &= bar('2,000 small objects, processor time to gold', small.ratio(OURS, GOLD, 'processor'), 1.0)
+        clock = small.unsynced(OURS) / small.median(GOLD, 'seconds')
+        good &= bar('2,000 small objects, clock without the sync to gold', clock, 1.0)
+        bar('2,000 small objects, processor time to gold', small.ratio(OURS, GOLD, 'processor'), 0.6, must=False)
+        bar('2,000 small objects, peak memory to gold', small.ratio(OURS, GOLD, 'peak'), 1.0, must=False)
+    if small and double and OURS in small.runs and OURS in double.runs:
+        figure = double.median(OURS, 'processor') / small.median(OURS, 'processor')
+        good &= bar('4,000 small objects, processor time to 2,000', figure, 2.2)
+    for case in cases:
+        if case.kind == 'large' and OURS in case.runs:
+            if LLD in case.runs:
+                bar('large objects, processor time to lld on one thread', case.ratio(OURS, LLD, 'processor'), 1.0, must=False)
+            figure = 1024 * case.median(OURS, 'peak') / (case.bytes + case.images[OURS])
+            bar('large objects, peak memory to inputs and image', figure, 3.0, must=False)
+    return good
+
+
+def machine(folder, linkers):
+    with open('/proc/cpuinfo') as f:
+        model = [line.split(':')[1].strip() for line in f if line.startswith('model name')]
+    print('%d processors, %s; Linux %s; load %.1f at the start; inputs and images in %s' % (
+        len(model), model[0] if model else platform.machine(), platform.release(), os.getloadavg()[0], folder))
+    for program in dict.fromkeys(linker.program for linker in linkers):
+        print('%s: %s' % (os.path.basename(program), version(program)))
+
+
+def main():
+    parser = argparse.ArgumentParser(description='Times lk_ld beside the linkers that are installed.')
+    parser.add_argument('--linker', default=os.path.join(HERE, '..', 'crates', 'lk_ld', 'out', 'lk_ld'))
+    parser.add_argument('--rounds', type=int, default=7)
+    parser.add_argument('--folder', help='where inputs and images stand, in a folder of their own (the temporary one)')
+    parser.add_argument('--skip', action='append', default=[], metavar='PROGRAM')
+    parser.add_argument('--install', action='store_true')
+    parser.add_argument('cases', nargs='*', default=['small:2000', 'small:4000', 'large:300'], metavar='KIND:COUNT')
+    words = parser.parse_args()
+    if words.install:
+        install()
+    linkers = installed(os.path.abspath(words.linker), words.skip)
+    with tempfile.TemporaryDirectory(dir=words.folder) as folder:
+        machine(folder, linkers)
+        cases, good = [], True
+        for what in words.cases:
+            case = Case(what, folder)
+            cases.append(case)
+            for turn in range(words.rounds):
+                case.round(linkers, turn)
+            case.table(linkers)
+            good &= case.good
+            shutil.rmtree(case.folder)
+        print()
+        good &= bars(cases)
+    sys.exit(not good)
+
+
+if __name__ == '__main__':
+    main()
