@@ -217,15 +217,14 @@ def main():
     linkers = installed(os.path.abspath(words.linker), words.skip)
     with tempfile.TemporaryDirectory(dir=words.folder) as folder:
         machine(folder, linkers)
-        cases, good = [], True
-        for what in words.cases:
-            case = Case(what, folder)
-            cases.append(case)
-            for turn in range(words.rounds):
+        cases = [Case(what, folder) for what in words.cases]
+        # Each round goes over all programs, so that what else the machine does weighs on all of them alike.
+        for turn in range(words.rounds):
+            for case in cases:
                 case.round(linkers, turn)
+        for case in cases:
             case.table(linkers)
-            good &= case.good
-            shutil.rmtree(case.folder)
+        good = all(case.good for case in cases)
         print()
         good &= bars(cases)
     sys.exit(not good)
