@@ -3,7 +3,7 @@
 use Rattle.std.specs.Prelude.{◌≡◌, ℕ, List, [], ◌∷◌, ◌++◌, Option, Some, None, replicate, codes, refl, if◌then◌else◌, pos}
 use Rattle.std.specs.Str.{bytes_eq}
 use Rattle.lk_report.specs.FileMap.{FileMap}
-use Rattle.lk_model.proofs.Computed.{said_of, linked_of}
+use Rattle.lk_model.proofs.Computed.{static_said_of, linked_of}
 
 abbrev zeros : ℕ → List ℕ
 zeros n = replicate n 0
@@ -57,8 +57,8 @@ two_names_words : List (List ℕ)
 two_names_words = codes "--incremental-full" ∷ codes "-o" ∷ codes "out" ∷ codes "a.o" ∷ []
 
 -- what is said: full link
-two_names_said : said_of two_names_words two_names_files ≡ codes "full link" ++ 10 ∷ []
-unfolding two_names_words two_names_files said_of
+two_names_said : static_said_of two_names_words two_names_files ≡ codes "full link" ++ 10 ∷ []
+unfolding two_names_words two_names_files static_said_of
 two_names_said = refl
 
 -- the image, 9240 bytes
@@ -181,8 +181,8 @@ one_name_words : List (List ℕ)
 one_name_words = codes "--incremental-full" ∷ codes "-o" ∷ codes "out" ∷ codes "a.o" ∷ []
 
 -- what is said: full link
-one_name_said : said_of one_name_words one_name_files ≡ codes "full link" ++ 10 ∷ []
-unfolding one_name_words one_name_files said_of
+one_name_said : static_said_of one_name_words one_name_files ≡ codes "full link" ++ 10 ∷ []
+unfolding one_name_words one_name_files static_said_of
 one_name_said = refl
 
 -- the image, 9192 bytes
@@ -310,8 +310,8 @@ with_relocations_words : List (List ℕ)
 with_relocations_words = codes "--incremental-full" ∷ codes "-o" ∷ codes "out" ∷ codes "a.o" ∷ []
 
 -- what is said: full link
-with_relocations_said : said_of with_relocations_words with_relocations_files ≡ codes "full link" ++ 10 ∷ []
-unfolding with_relocations_words with_relocations_files said_of
+with_relocations_said : static_said_of with_relocations_words with_relocations_files ≡ codes "full link" ++ 10 ∷ []
+unfolding with_relocations_words with_relocations_files static_said_of
 with_relocations_said = refl
 
 -- the image, 9280 bytes

@@ -3,7 +3,7 @@
 use Rattle.std.specs.Prelude.{◌≡◌, ℕ, List, [], ◌∷◌, ◌++◌, Option, Some, None, replicate, codes, refl, if◌then◌else◌, pos}
 use Rattle.std.specs.Str.{bytes_eq}
 use Rattle.lk_report.specs.FileMap.{FileMap}
-use Rattle.lk_model.proofs.Computed.{said_of, linked_of}
+use Rattle.lk_model.proofs.Computed.{static_said_of, linked_of}
 
 abbrev zeros : ℕ → List ℕ
 zeros n = replicate n 0
@@ -61,8 +61,8 @@ five_relocations_words : List (List ℕ)
 five_relocations_words = codes "--incremental-full" ∷ codes "-o" ∷ codes "out" ∷ codes "a.o" ∷ []
 
 -- what is said: full link
-five_relocations_said : said_of five_relocations_words five_relocations_files ≡ codes "full link" ++ 10 ∷ []
-unfolding five_relocations_words five_relocations_files said_of
+five_relocations_said : static_said_of five_relocations_words five_relocations_files ≡ codes "full link" ++ 10 ∷ []
+unfolding five_relocations_words five_relocations_files static_said_of
 five_relocations_said = refl
 
 -- the image, 9192 bytes
@@ -187,8 +187,8 @@ long_code_words : List (List ℕ)
 long_code_words = codes "--incremental-full" ∷ codes "-o" ∷ codes "out" ∷ codes "a.o" ∷ []
 
 -- what is said: full link
-long_code_said : said_of long_code_words long_code_files ≡ codes "full link" ++ 10 ∷ []
-unfolding long_code_words long_code_files said_of
+long_code_said : static_said_of long_code_words long_code_files ≡ codes "full link" ++ 10 ∷ []
+unfolding long_code_words long_code_files static_said_of
 long_code_said = refl
 
 -- the image, 9328 bytes

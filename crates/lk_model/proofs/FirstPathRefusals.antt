@@ -1,9 +1,9 @@
 -- Links of one plain object, computed from the definitions: what is said and, where the link succeeds,
--- the image, byte for byte, against bytes that were computed by other means. Links that are refused, and forms that wait.
-use Rattle.std.specs.Prelude.{◌≡◌, ℕ, List, [], ◌∷◌, ◌++◌, Option, Some, None, replicate, codes, refl, if◌then◌else◌, pos}
+-- the image, byte for byte, against bytes that were computed by other means. Links that are refused.
+use Rattle.std.specs.Prelude.{◌≡◌, ℕ, List, [], ◌∷◌, ◌++◌, Some, None, replicate, codes, refl, if◌then◌else◌, pos}
 use Rattle.std.specs.Str.{bytes_eq}
 use Rattle.lk_report.specs.FileMap.{FileMap}
-use Rattle.lk_model.proofs.Computed.{said_of}
+use Rattle.lk_model.proofs.Computed.{static_said_of}
 
 abbrev zeros : ℕ → List ℕ
 zeros n = replicate n 0
@@ -66,61 +66,9 @@ overflowing_words : List (List ℕ)
 overflowing_words = codes "--incremental-full" ∷ codes "-o" ∷ codes "out" ∷ codes "a.o" ∷ []
 
 -- what is said: error: overflow at a.o:1+0x0: 0x100000108
-overflowing_said : said_of overflowing_words overflowing_files ≡ codes "error: overflow at a.o:1+0x0: 0x100000108" ++ 10 ∷ []
-unfolding overflowing_words overflowing_files said_of
+overflowing_said : static_said_of overflowing_words overflowing_files ≡ codes "error: overflow at a.o:1+0x0: 0x100000108" ++ 10 ∷ []
+unfolding overflowing_words overflowing_files static_said_of
 overflowing_said = refl
-
--- the bytes of an input
-cut_short_input : List ℕ
-cut_short_input =
-    (127 ∷ 69 ∷ 76 ∷ 70 ∷ 2 ∷ 1 ∷ 1 ∷ 0 ∷ 0 ∷ 0 ∷ 0 ∷ 0 ∷ 0 ∷ 0 ∷ 0 ∷ 0 ∷ 1 ∷ 0 ∷ 62 ∷ 0 ∷ 1 ∷ [])
-    ++ zeros 19
-    ++ (64 ∷ 0 ∷ 0 ∷ 0 ∷ 0 ∷ 0 ∷ 0 ∷ 0 ∷ 0 ∷ 0 ∷ 0 ∷ 0 ∷ 64 ∷ 0 ∷ 0 ∷ 0 ∷ 0 ∷ 0 ∷ 64 ∷ 0 ∷ 6 ∷ 0 ∷ 5 ∷ [])
-    ++ zeros 65
-    ++ (1 ∷ 0 ∷ 0 ∷ 0 ∷ 1 ∷ 0 ∷ 0 ∷ 0 ∷ 6 ∷ [])
-    ++ zeros 15
-    ++ (192 ∷ 1 ∷ 0 ∷ 0 ∷ 0 ∷ 0 ∷ 0 ∷ 0 ∷ 1 ∷ [])
-    ++ zeros 15
-    ++ (32 ∷ [])
-    ++ zeros 15
-    ++ (7 ∷ 0 ∷ 0 ∷ 0 ∷ 4 ∷ 0 ∷ 0 ∷ 0 ∷ 64 ∷ [])
-    ++ zeros 15
-    ++ (200 ∷ 1 ∷ [])
-    ++ zeros 14
-    ++ (3 ∷ 0 ∷ 0 ∷ 0 ∷ 1 ∷ 0 ∷ 0 ∷ 0 ∷ 8 ∷ 0 ∷ 0 ∷ 0 ∷ 0 ∷ 0 ∷ 0 ∷ 0 ∷ 24 ∷ 0 ∷ 0 ∷ 0 ∷ 0 ∷ 0 ∷ 0 ∷ 0 ∷ 18 ∷ 0 ∷ 0 ∷ 0 ∷ 2 ∷ [])
-    ++ zeros 19
-    ++ (200 ∷ 1 ∷ 0 ∷ 0 ∷ 0 ∷ 0 ∷ 0 ∷ 0 ∷ 72 ∷ 0 ∷ 0 ∷ 0 ∷ 0 ∷ 0 ∷ 0 ∷ 0 ∷ 4 ∷ 0 ∷ 0 ∷ 0 ∷ 2 ∷ 0 ∷ 0 ∷ 0 ∷ 8 ∷ 0 ∷ 0 ∷ 0 ∷ 0 ∷ 0 ∷ 0 ∷ 0 ∷ [])
-    ++ (24 ∷ 0 ∷ 0 ∷ 0 ∷ 0 ∷ 0 ∷ 0 ∷ 0 ∷ 26 ∷ 0 ∷ 0 ∷ 0 ∷ 3 ∷ [])
-    ++ zeros 19
-    ++ (16 ∷ 2 ∷ 0 ∷ 0 ∷ 0 ∷ 0 ∷ 0 ∷ 0 ∷ 11 ∷ [])
-    ++ zeros 15
-    ++ (1 ∷ [])
-    ++ zeros 15
-    ++ (34 ∷ 0 ∷ 0 ∷ 0 ∷ 3 ∷ [])
-    ++ zeros 19
-    ++ (27 ∷ 2 ∷ 0 ∷ 0 ∷ 0 ∷ 0 ∷ 0 ∷ 0 ∷ 44 ∷ [])
-    ++ zeros 15
-    ++ (1 ∷ [])
-    ++ zeros 15
-    ++ (151 ∷ [])
-    ++ zeros 31
-    ++ (1 ∷ 0 ∷ 0 ∷ 0 ∷ 3 ∷ 0 ∷ 241 ∷ 255 ∷ 0 ∷ 0 ∷ 0 ∷ 0 ∷ 0 ∷ 1 ∷ 0 ∷ 0 ∷ 1 ∷ 0 ∷ 0 ∷ 0 ∷ 0 ∷ 0 ∷ 0 ∷ 0 ∷ 4 ∷ 0 ∷ 0 ∷ 0 ∷ 17 ∷ 2 ∷ 1 ∷ 0 ∷ [])
-    ++ (35 ∷ 0 ∷ 0 ∷ 0 ∷ 0 ∷ 0 ∷ 0 ∷ 0 ∷ 6 ∷ 0 ∷ 0 ∷ 0 ∷ 0 ∷ 0 ∷ 0 ∷ 0 ∷ 0 ∷ 108 ∷ 48 ∷ 0 ∷ 95 ∷ 115 ∷ 116 ∷ 97 ∷ 114 ∷ 116 ∷ 0 ∷ 0 ∷ 46 ∷ 116 ∷ 101 ∷ 120 ∷ [])
-    ++ (116 ∷ 0 ∷ 46 ∷ 114 ∷ 101 ∷ 108 ∷ 97 ∷ 46 ∷ 116 ∷ 101 ∷ 120 ∷ 116 ∷ 0 ∷ 46 ∷ 115 ∷ 121 ∷ 109 ∷ 116 ∷ 97 ∷ 98 ∷ 0 ∷ 46 ∷ 115 ∷ 116 ∷ 114 ∷ 116 ∷ 97 ∷ 98 ∷ 0 ∷ 46 ∷ 115 ∷ 104 ∷ [])
-    ++ (115 ∷ 116 ∷ 114 ∷ 116 ∷ 97 ∷ 98 ∷ 0 ∷ [])
-
-cut_short_files : FileMap
-unfolding cut_short_input
-cut_short_files path =
-    if bytes_eq path (codes "a.o") then Some (record { bytes = cut_short_input; stamp = Some (record { length = 583; modified = pos 1600000000000005003 }) }) else None
-
-cut_short_words : List (List ℕ)
-cut_short_words = codes "--incremental-full" ∷ codes "-o" ∷ codes "out" ∷ codes "a.o" ∷ []
-
--- what is said: not built yet: a.o
-cut_short_said : said_of cut_short_words cut_short_files ≡ codes "not built yet: a.o" ++ 10 ∷ []
-unfolding cut_short_words cut_short_files said_of
-cut_short_said = refl
 
 -- the bytes of an input
 undefined_name_input : List ℕ
@@ -195,8 +143,8 @@ undefined_name_words : List (List ℕ)
 undefined_name_words = codes "--incremental-full" ∷ codes "-o" ∷ codes "out" ∷ codes "a.o" ∷ []
 
 -- what is said: error: undefined g3 at a.o:1+0x11
-undefined_name_said : said_of undefined_name_words undefined_name_files ≡ codes "error: undefined g3 at a.o:1+0x11" ++ 10 ∷ []
-unfolding undefined_name_words undefined_name_files said_of
+undefined_name_said : static_said_of undefined_name_words undefined_name_files ≡ codes "error: undefined g3 at a.o:1+0x11" ++ 10 ∷ []
+unfolding undefined_name_words undefined_name_files static_said_of
 undefined_name_said = refl
 
 -- the bytes of an input
@@ -259,8 +207,8 @@ far_away_words : List (List ℕ)
 far_away_words = codes "--incremental-full" ∷ codes "-o" ∷ codes "out" ∷ codes "a.o" ∷ []
 
 -- what is said: error: overflow at a.o:1+0x1d: 0x7fffffffffbfefe2
-far_away_said : said_of far_away_words far_away_files ≡ codes "error: overflow at a.o:1+0x1d: 0x7fffffffffbfefe2" ++ 10 ∷ []
-unfolding far_away_words far_away_files said_of
+far_away_said : static_said_of far_away_words far_away_files ≡ codes "error: overflow at a.o:1+0x1d: 0x7fffffffffbfefe2" ++ 10 ∷ []
+unfolding far_away_words far_away_files static_said_of
 far_away_said = refl
 
 -- the bytes of an input
@@ -277,136 +225,6 @@ one_byte_words : List (List ℕ)
 one_byte_words = codes "--incremental-full" ∷ codes "-o" ∷ codes "out" ∷ codes "a.o" ∷ []
 
 -- what is said: error: a.o: NotElf
-one_byte_said : said_of one_byte_words one_byte_files ≡ codes "error: a.o: NotElf" ++ 10 ∷ []
-unfolding one_byte_words one_byte_files said_of
+one_byte_said : static_said_of one_byte_words one_byte_files ≡ codes "error: a.o: NotElf" ++ 10 ∷ []
+unfolding one_byte_words one_byte_files static_said_of
 one_byte_said = refl
-
--- the bytes of an input
-other_words_input : List ℕ
-other_words_input =
-    (127 ∷ 69 ∷ 76 ∷ 70 ∷ 2 ∷ 1 ∷ 1 ∷ 0 ∷ 0 ∷ 0 ∷ 0 ∷ 0 ∷ 0 ∷ 0 ∷ 0 ∷ 0 ∷ 1 ∷ 0 ∷ 62 ∷ 0 ∷ 1 ∷ [])
-    ++ zeros 19
-    ++ (72 ∷ 1 ∷ 0 ∷ 0 ∷ 0 ∷ 0 ∷ 0 ∷ 0 ∷ 0 ∷ 0 ∷ 0 ∷ 0 ∷ 64 ∷ 0 ∷ 0 ∷ 0 ∷ 0 ∷ 0 ∷ 64 ∷ 0 ∷ 6 ∷ 0 ∷ 5 ∷ 0 ∷ 58 ∷ 72 ∷ 90 ∷ 151 ∷ 65 ∷ 37 ∷ 135 ∷ 30 ∷ [])
-    ++ (88 ∷ 220 ∷ 185 ∷ 64 ∷ 242 ∷ 211 ∷ 213 ∷ 28 ∷ 10 ∷ 172 ∷ 33 ∷ 52 ∷ 110 ∷ 209 ∷ 96 ∷ 185 ∷ 66 ∷ 164 ∷ 123 ∷ 56 ∷ 69 ∷ 9 ∷ 214 ∷ 196 ∷ 150 ∷ 216 ∷ 236 ∷ 111 ∷ 48 ∷ 61 ∷ 18 ∷ 27 ∷ [])
-    ++ (12 ∷ 0 ∷ 0 ∷ 0 ∷ 0 ∷ 0 ∷ 0 ∷ 0 ∷ 2 ∷ 0 ∷ 0 ∷ 0 ∷ 1 ∷ 0 ∷ 0 ∷ 0 ∷ 0 ∷ 0 ∷ 0 ∷ 0 ∷ 0 ∷ 0 ∷ 0 ∷ 0 ∷ 26 ∷ 0 ∷ 0 ∷ 0 ∷ 0 ∷ 0 ∷ 0 ∷ 0 ∷ [])
-    ++ (24 ∷ 0 ∷ 0 ∷ 0 ∷ 1 ∷ 0 ∷ 0 ∷ 0 ∷ 4 ∷ 0 ∷ 0 ∷ 0 ∷ 0 ∷ 0 ∷ 0 ∷ 0 ∷ 8 ∷ 0 ∷ 0 ∷ 0 ∷ 0 ∷ 0 ∷ 0 ∷ 0 ∷ 2 ∷ 0 ∷ 0 ∷ 0 ∷ 1 ∷ [])
-    ++ zeros 19
-    ++ (24 ∷ 0 ∷ 0 ∷ 0 ∷ 1 ∷ 0 ∷ 0 ∷ 0 ∷ 100 ∷ 0 ∷ 0 ∷ 0 ∷ 0 ∷ 0 ∷ 0 ∷ 0 ∷ 17 ∷ 0 ∷ 0 ∷ 0 ∷ 0 ∷ 0 ∷ 0 ∷ 0 ∷ 2 ∷ 0 ∷ 0 ∷ 0 ∷ 1 ∷ [])
-    ++ zeros 35
-    ++ (1 ∷ 0 ∷ 0 ∷ 0 ∷ 17 ∷ 0 ∷ 1 ∷ 0 ∷ 0 ∷ 0 ∷ 0 ∷ 0 ∷ 0 ∷ 0 ∷ 0 ∷ 0 ∷ 14 ∷ 0 ∷ 0 ∷ 0 ∷ 0 ∷ 0 ∷ 0 ∷ 0 ∷ 0 ∷ 95 ∷ 115 ∷ 116 ∷ 97 ∷ 114 ∷ 116 ∷ 0 ∷ [])
-    ++ (0 ∷ 46 ∷ 116 ∷ 101 ∷ 120 ∷ 116 ∷ 0 ∷ 46 ∷ 114 ∷ 101 ∷ 108 ∷ 97 ∷ 46 ∷ 116 ∷ 101 ∷ 120 ∷ 116 ∷ 0 ∷ 46 ∷ 115 ∷ 121 ∷ 109 ∷ 116 ∷ 97 ∷ 98 ∷ 0 ∷ 46 ∷ 115 ∷ 116 ∷ 114 ∷ 116 ∷ 97 ∷ [])
-    ++ (98 ∷ 0 ∷ 46 ∷ 115 ∷ 104 ∷ 115 ∷ 116 ∷ 114 ∷ 116 ∷ 97 ∷ 98 ∷ [])
-    ++ zeros 69
-    ++ (1 ∷ 0 ∷ 0 ∷ 0 ∷ 1 ∷ 0 ∷ 0 ∷ 0 ∷ 6 ∷ [])
-    ++ zeros 15
-    ++ (64 ∷ 0 ∷ 0 ∷ 0 ∷ 0 ∷ 0 ∷ 0 ∷ 0 ∷ 40 ∷ [])
-    ++ zeros 15
-    ++ (8 ∷ [])
-    ++ zeros 15
-    ++ (7 ∷ 0 ∷ 0 ∷ 0 ∷ 4 ∷ 0 ∷ 0 ∷ 0 ∷ 64 ∷ [])
-    ++ zeros 15
-    ++ (104 ∷ 0 ∷ 0 ∷ 0 ∷ 0 ∷ 0 ∷ 0 ∷ 0 ∷ 120 ∷ 0 ∷ 0 ∷ 0 ∷ 0 ∷ 0 ∷ 0 ∷ 0 ∷ 3 ∷ 0 ∷ 0 ∷ 0 ∷ 1 ∷ 0 ∷ 0 ∷ 0 ∷ 8 ∷ 0 ∷ 0 ∷ 0 ∷ 0 ∷ 0 ∷ 0 ∷ 0 ∷ [])
-    ++ (24 ∷ 0 ∷ 0 ∷ 0 ∷ 0 ∷ 0 ∷ 0 ∷ 0 ∷ 18 ∷ 0 ∷ 0 ∷ 0 ∷ 2 ∷ [])
-    ++ zeros 19
-    ++ (224 ∷ 0 ∷ 0 ∷ 0 ∷ 0 ∷ 0 ∷ 0 ∷ 0 ∷ 48 ∷ 0 ∷ 0 ∷ 0 ∷ 0 ∷ 0 ∷ 0 ∷ 0 ∷ 4 ∷ 0 ∷ 0 ∷ 0 ∷ 1 ∷ 0 ∷ 0 ∷ 0 ∷ 8 ∷ 0 ∷ 0 ∷ 0 ∷ 0 ∷ 0 ∷ 0 ∷ 0 ∷ [])
-    ++ (24 ∷ 0 ∷ 0 ∷ 0 ∷ 0 ∷ 0 ∷ 0 ∷ 0 ∷ 26 ∷ 0 ∷ 0 ∷ 0 ∷ 3 ∷ [])
-    ++ zeros 19
-    ++ (16 ∷ 1 ∷ 0 ∷ 0 ∷ 0 ∷ 0 ∷ 0 ∷ 0 ∷ 8 ∷ [])
-    ++ zeros 15
-    ++ (1 ∷ [])
-    ++ zeros 15
-    ++ (34 ∷ 0 ∷ 0 ∷ 0 ∷ 3 ∷ [])
-    ++ zeros 19
-    ++ (24 ∷ 1 ∷ 0 ∷ 0 ∷ 0 ∷ 0 ∷ 0 ∷ 0 ∷ 44 ∷ [])
-    ++ zeros 15
-    ++ (1 ∷ [])
-    ++ zeros 15
-
-other_words_files : FileMap
-unfolding other_words_input
-other_words_files path =
-    if bytes_eq path (codes "a.o") then Some (record { bytes = other_words_input; stamp = Some (record { length = 712; modified = pos 1600000000000000000 }) }) else None
-
-other_words_words : List (List ℕ)
-other_words_words = codes "--incremental-base" ∷ codes "--start-lib" ∷ codes "--incremental-changed" ∷ codes "a.o" ∷ codes "--incremental-unchanged" ∷ codes "--incremental-patch=500" ∷ codes "--incremental-changed" ∷ codes "-dynamic-linker=/l" ∷ []
-
--- what is said: not built yet: words
-other_words_said : said_of other_words_words other_words_files ≡ codes "not built yet: words" ++ 10 ∷ []
-unfolding other_words_words other_words_files said_of
-other_words_said = refl
-
--- the bytes of an input
-refused_words_input : List ℕ
-refused_words_input =
-    (127 ∷ 69 ∷ 76 ∷ 70 ∷ 2 ∷ 1 ∷ 1 ∷ 0 ∷ 0 ∷ 0 ∷ 0 ∷ 0 ∷ 0 ∷ 0 ∷ 0 ∷ 0 ∷ 1 ∷ 0 ∷ 62 ∷ 0 ∷ 1 ∷ [])
-    ++ zeros 19
-    ++ (248 ∷ 3 ∷ 0 ∷ 0 ∷ 0 ∷ 0 ∷ 0 ∷ 0 ∷ 0 ∷ 0 ∷ 0 ∷ 0 ∷ 64 ∷ 0 ∷ 0 ∷ 0 ∷ 0 ∷ 0 ∷ 64 ∷ 0 ∷ 6 ∷ 0 ∷ 5 ∷ 0 ∷ 46 ∷ 101 ∷ 88 ∷ 132 ∷ 94 ∷ 28 ∷ 233 ∷ 30 ∷ [])
-    ++ (199 ∷ 215 ∷ 16 ∷ 2 ∷ 248 ∷ 124 ∷ 178 ∷ 200 ∷ 25 ∷ 186 ∷ 36 ∷ 64 ∷ 238 ∷ 237 ∷ 209 ∷ 195 ∷ 90 ∷ 73 ∷ 193 ∷ 144 ∷ 82 ∷ 1 ∷ 172 ∷ 195 ∷ 208 ∷ 188 ∷ 113 ∷ 50 ∷ 27 ∷ 128 ∷ 195 ∷ 67 ∷ [])
-    ++ (58 ∷ 180 ∷ 158 ∷ 174 ∷ 62 ∷ 66 ∷ 89 ∷ 233 ∷ 70 ∷ 143 ∷ 53 ∷ 40 ∷ 126 ∷ 99 ∷ 243 ∷ 199 ∷ 158 ∷ 50 ∷ 102 ∷ 215 ∷ 27 ∷ 172 ∷ 180 ∷ 52 ∷ 93 ∷ 120 ∷ 13 ∷ 100 ∷ 148 ∷ 97 ∷ 140 ∷ 104 ∷ [])
-    ++ (3 ∷ 100 ∷ 114 ∷ 145 ∷ 222 ∷ 227 ∷ 73 ∷ 192 ∷ 192 ∷ 233 ∷ 103 ∷ 211 ∷ 52 ∷ 17 ∷ 215 ∷ 86 ∷ 21 ∷ 97 ∷ 126 ∷ 65 ∷ 47 ∷ 69 ∷ 163 ∷ 95 ∷ 24 ∷ 79 ∷ 157 ∷ 148 ∷ 6 ∷ 79 ∷ 164 ∷ 191 ∷ [])
-    ++ (128 ∷ 43 ∷ 247 ∷ 250 ∷ 174 ∷ 52 ∷ 237 ∷ 35 ∷ 232 ∷ 224 ∷ 204 ∷ 34 ∷ 224 ∷ 189 ∷ 120 ∷ 12 ∷ 14 ∷ 183 ∷ 24 ∷ 170 ∷ 254 ∷ 228 ∷ 225 ∷ 131 ∷ 83 ∷ 128 ∷ 111 ∷ 159 ∷ 57 ∷ 101 ∷ 217 ∷ 242 ∷ [])
-    ++ (66 ∷ 135 ∷ 115 ∷ 106 ∷ 190 ∷ 134 ∷ 139 ∷ 248 ∷ 9 ∷ 75 ∷ 125 ∷ 61 ∷ 17 ∷ 143 ∷ 125 ∷ 133 ∷ 145 ∷ 6 ∷ 141 ∷ 67 ∷ 241 ∷ 249 ∷ 81 ∷ 7 ∷ 145 ∷ 205 ∷ 191 ∷ 1 ∷ 171 ∷ 252 ∷ 27 ∷ 67 ∷ [])
-    ++ (239 ∷ 4 ∷ 245 ∷ 105 ∷ 182 ∷ 215 ∷ 29 ∷ 198 ∷ 162 ∷ 180 ∷ 49 ∷ 55 ∷ 233 ∷ 24 ∷ 246 ∷ 140 ∷ 218 ∷ 30 ∷ 147 ∷ 251 ∷ 241 ∷ 217 ∷ 61 ∷ 164 ∷ 186 ∷ 4 ∷ 57 ∷ 41 ∷ 93 ∷ 204 ∷ 154 ∷ 207 ∷ [])
-    ++ (153 ∷ 109 ∷ 189 ∷ 98 ∷ 54 ∷ 189 ∷ 122 ∷ 99 ∷ 246 ∷ 94 ∷ 238 ∷ 150 ∷ 240 ∷ 5 ∷ 117 ∷ 240 ∷ 183 ∷ 7 ∷ 205 ∷ 216 ∷ 94 ∷ 214 ∷ 174 ∷ 139 ∷ 28 ∷ 90 ∷ 193 ∷ 161 ∷ 166 ∷ 153 ∷ 24 ∷ 115 ∷ [])
-    ++ (254 ∷ 194 ∷ 176 ∷ 90 ∷ 131 ∷ 186 ∷ 200 ∷ 195 ∷ 216 ∷ 216 ∷ 67 ∷ 159 ∷ 147 ∷ 161 ∷ 158 ∷ 207 ∷ 58 ∷ 28 ∷ 106 ∷ 172 ∷ 214 ∷ 0 ∷ 62 ∷ 229 ∷ 93 ∷ 248 ∷ 59 ∷ 92 ∷ 139 ∷ 177 ∷ 172 ∷ 113 ∷ [])
-    ++ (30 ∷ 253 ∷ 81 ∷ 180 ∷ 146 ∷ 188 ∷ 87 ∷ 248 ∷ 115 ∷ 201 ∷ 12 ∷ 202 ∷ 237 ∷ 218 ∷ 196 ∷ 184 ∷ 89 ∷ 155 ∷ 104 ∷ 54 ∷ 133 ∷ 69 ∷ 226 ∷ 144 ∷ 205 ∷ 239 ∷ 108 ∷ 189 ∷ 129 ∷ 221 ∷ 222 ∷ 21 ∷ [])
-    ++ (76 ∷ 8 ∷ 171 ∷ 142 ∷ 144 ∷ 43 ∷ 15 ∷ 158 ∷ 136 ∷ 73 ∷ 201 ∷ 158 ∷ 219 ∷ 48 ∷ 65 ∷ 185 ∷ 171 ∷ 128 ∷ 18 ∷ 184 ∷ 171 ∷ 60 ∷ 195 ∷ 65 ∷ 95 ∷ 215 ∷ 160 ∷ 199 ∷ 134 ∷ 88 ∷ 255 ∷ 130 ∷ [])
-    ++ (82 ∷ 154 ∷ 28 ∷ 96 ∷ 33 ∷ 60 ∷ 240 ∷ 174 ∷ 204 ∷ 127 ∷ 119 ∷ 151 ∷ 211 ∷ 223 ∷ 169 ∷ 0 ∷ 38 ∷ 212 ∷ 67 ∷ 251 ∷ 251 ∷ 157 ∷ 117 ∷ 115 ∷ 60 ∷ 45 ∷ 31 ∷ 160 ∷ 221 ∷ 182 ∷ 137 ∷ 85 ∷ [])
-    ++ (64 ∷ 56 ∷ 144 ∷ 26 ∷ 240 ∷ 223 ∷ 210 ∷ 184 ∷ 21 ∷ 150 ∷ 113 ∷ 177 ∷ 242 ∷ 92 ∷ 56 ∷ 11 ∷ 214 ∷ 2 ∷ 200 ∷ 53 ∷ 234 ∷ 29 ∷ 177 ∷ 91 ∷ 126 ∷ 82 ∷ 240 ∷ 53 ∷ 211 ∷ 241 ∷ 38 ∷ 193 ∷ [])
-    ++ (227 ∷ 12 ∷ 154 ∷ 182 ∷ 235 ∷ 50 ∷ 161 ∷ 122 ∷ 162 ∷ 50 ∷ 89 ∷ 170 ∷ 5 ∷ 9 ∷ 84 ∷ 253 ∷ 207 ∷ 106 ∷ 203 ∷ 112 ∷ 139 ∷ 161 ∷ 152 ∷ 114 ∷ 198 ∷ 109 ∷ 100 ∷ 211 ∷ 248 ∷ 29 ∷ 13 ∷ 140 ∷ [])
-    ++ (38 ∷ 133 ∷ 109 ∷ 195 ∷ 239 ∷ 18 ∷ 156 ∷ 152 ∷ 16 ∷ 193 ∷ 1 ∷ 15 ∷ 198 ∷ 242 ∷ 212 ∷ 86 ∷ 242 ∷ 86 ∷ 4 ∷ 246 ∷ 244 ∷ 225 ∷ 64 ∷ 66 ∷ 1 ∷ 116 ∷ 219 ∷ 182 ∷ 4 ∷ 168 ∷ 133 ∷ 3 ∷ [])
-    ++ (230 ∷ 50 ∷ 230 ∷ 140 ∷ 243 ∷ 110 ∷ 84 ∷ 129 ∷ 240 ∷ 0 ∷ 79 ∷ 53 ∷ 164 ∷ 107 ∷ 87 ∷ 233 ∷ 60 ∷ 176 ∷ 134 ∷ 125 ∷ 112 ∷ 20 ∷ 180 ∷ 227 ∷ 157 ∷ 18 ∷ 22 ∷ 56 ∷ 18 ∷ 4 ∷ 161 ∷ 72 ∷ [])
-    ++ (173 ∷ 159 ∷ 106 ∷ 103 ∷ 111 ∷ 189 ∷ 30 ∷ 31 ∷ 169 ∷ 212 ∷ 69 ∷ 140 ∷ 104 ∷ 98 ∷ 182 ∷ 173 ∷ 56 ∷ 74 ∷ 12 ∷ 221 ∷ 210 ∷ 234 ∷ 209 ∷ 156 ∷ 107 ∷ 231 ∷ 33 ∷ 133 ∷ 153 ∷ 188 ∷ 203 ∷ 146 ∷ [])
-    ++ (20 ∷ 188 ∷ 203 ∷ 225 ∷ 91 ∷ 91 ∷ 45 ∷ 175 ∷ 114 ∷ 57 ∷ 194 ∷ 176 ∷ 29 ∷ 90 ∷ 121 ∷ 46 ∷ 59 ∷ 40 ∷ 61 ∷ 45 ∷ 55 ∷ 153 ∷ 27 ∷ 54 ∷ 144 ∷ 46 ∷ 192 ∷ 165 ∷ 44 ∷ 112 ∷ 62 ∷ 253 ∷ [])
-    ++ (80 ∷ 208 ∷ 200 ∷ 94 ∷ 193 ∷ 188 ∷ 99 ∷ 94 ∷ 147 ∷ 33 ∷ 173 ∷ 154 ∷ 194 ∷ 196 ∷ 182 ∷ 200 ∷ 204 ∷ 55 ∷ 88 ∷ 189 ∷ 222 ∷ 134 ∷ 247 ∷ 243 ∷ 201 ∷ 146 ∷ 210 ∷ 64 ∷ 209 ∷ 34 ∷ 193 ∷ 34 ∷ [])
-    ++ (150 ∷ 42 ∷ 35 ∷ 18 ∷ 196 ∷ 113 ∷ 15 ∷ 10 ∷ 144 ∷ 47 ∷ 85 ∷ 182 ∷ 211 ∷ 46 ∷ 113 ∷ 73 ∷ 24 ∷ 0 ∷ 0 ∷ 0 ∷ 0 ∷ 0 ∷ 0 ∷ 0 ∷ 2 ∷ 0 ∷ 0 ∷ 0 ∷ 3 ∷ 0 ∷ 0 ∷ 0 ∷ [])
-    ++ (0 ∷ 0 ∷ 0 ∷ 0 ∷ 0 ∷ 0 ∷ 0 ∷ 0 ∷ 46 ∷ 0 ∷ 0 ∷ 0 ∷ 0 ∷ 0 ∷ 0 ∷ 0 ∷ 1 ∷ 0 ∷ 0 ∷ 0 ∷ 4 ∷ 0 ∷ 0 ∷ 0 ∷ 198 ∷ 78 ∷ 228 ∷ 102 ∷ [])
-    ++ zeros 12
-    ++ (2 ∷ 0 ∷ 0 ∷ 0 ∷ 3 ∷ 0 ∷ 0 ∷ 0 ∷ 118 ∷ 0 ∷ 0 ∷ 0 ∷ 0 ∷ 0 ∷ 0 ∷ 0 ∷ 36 ∷ 0 ∷ 0 ∷ 0 ∷ 0 ∷ 0 ∷ 0 ∷ 0 ∷ 24 ∷ 0 ∷ 0 ∷ 0 ∷ 1 ∷ 0 ∷ 0 ∷ 0 ∷ [])
-    ++ (0 ∷ 0 ∷ 0 ∷ 0 ∷ 0 ∷ 0 ∷ 0 ∷ 0 ∷ 14 ∷ 0 ∷ 0 ∷ 0 ∷ 0 ∷ 0 ∷ 0 ∷ 0 ∷ 24 ∷ 0 ∷ 0 ∷ 0 ∷ 2 ∷ 0 ∷ 0 ∷ 0 ∷ 0 ∷ 0 ∷ 0 ∷ 0 ∷ 0 ∷ 0 ∷ 0 ∷ 0 ∷ [])
-    ++ (4 ∷ 0 ∷ 0 ∷ 0 ∷ 0 ∷ 0 ∷ 0 ∷ 0 ∷ 1 ∷ 0 ∷ 0 ∷ 0 ∷ 2 ∷ 0 ∷ 0 ∷ 0 ∷ 0 ∷ 0 ∷ 0 ∷ 0 ∷ 0 ∷ 0 ∷ 0 ∷ 0 ∷ 28 ∷ 0 ∷ 0 ∷ 0 ∷ 0 ∷ 0 ∷ 0 ∷ 0 ∷ [])
-    ++ (24 ∷ 0 ∷ 0 ∷ 0 ∷ 2 ∷ [])
-    ++ zeros 35
-    ++ (1 ∷ 0 ∷ 0 ∷ 0 ∷ 4 ∷ 0 ∷ 241 ∷ 255 ∷ 255 ∷ 255 ∷ 255 ∷ 255 ∷ 255 ∷ 255 ∷ 255 ∷ 255 ∷ 5 ∷ 0 ∷ 0 ∷ 0 ∷ 0 ∷ 0 ∷ 0 ∷ 0 ∷ 0 ∷ 0 ∷ 0 ∷ 0 ∷ 2 ∷ 0 ∷ 241 ∷ 255 ∷ [])
-    ++ (0 ∷ 0 ∷ 0 ∷ 0 ∷ 0 ∷ 1 ∷ 0 ∷ 0 ∷ 5 ∷ 0 ∷ 0 ∷ 0 ∷ 0 ∷ 0 ∷ 0 ∷ 0 ∷ 4 ∷ 0 ∷ 0 ∷ 0 ∷ 16 ∷ 2 ∷ 1 ∷ 0 ∷ 31 ∷ 0 ∷ 0 ∷ 0 ∷ 0 ∷ 0 ∷ 0 ∷ 0 ∷ [])
-    ++ (16 ∷ 0 ∷ 0 ∷ 0 ∷ 0 ∷ 0 ∷ 0 ∷ 0 ∷ 7 ∷ 0 ∷ 0 ∷ 0 ∷ 18 ∷ 2 ∷ 1 ∷ 0 ∷ 164 ∷ 1 ∷ 0 ∷ 0 ∷ 0 ∷ 0 ∷ 0 ∷ 0 ∷ 17 ∷ 0 ∷ 0 ∷ 0 ∷ 0 ∷ 0 ∷ 0 ∷ 0 ∷ [])
-    ++ (0 ∷ 108 ∷ 48 ∷ 0 ∷ 103 ∷ 48 ∷ 0 ∷ 95 ∷ 115 ∷ 116 ∷ 97 ∷ 114 ∷ 116 ∷ 0 ∷ 0 ∷ 46 ∷ 116 ∷ 101 ∷ 120 ∷ 116 ∷ 0 ∷ 46 ∷ 114 ∷ 101 ∷ 108 ∷ 97 ∷ 46 ∷ 116 ∷ 101 ∷ 120 ∷ 116 ∷ 0 ∷ [])
-    ++ (46 ∷ 115 ∷ 121 ∷ 109 ∷ 116 ∷ 97 ∷ 98 ∷ 0 ∷ 46 ∷ 115 ∷ 116 ∷ 114 ∷ 116 ∷ 97 ∷ 98 ∷ 0 ∷ 46 ∷ 115 ∷ 104 ∷ 115 ∷ 116 ∷ 114 ∷ 116 ∷ 97 ∷ 98 ∷ [])
-    ++ zeros 71
-    ++ (1 ∷ 0 ∷ 0 ∷ 0 ∷ 1 ∷ 0 ∷ 0 ∷ 0 ∷ 6 ∷ [])
-    ++ zeros 15
-    ++ (64 ∷ 0 ∷ 0 ∷ 0 ∷ 0 ∷ 0 ∷ 0 ∷ 0 ∷ 88 ∷ 2 ∷ [])
-    ++ zeros 14
-    ++ (16 ∷ [])
-    ++ zeros 15
-    ++ (7 ∷ 0 ∷ 0 ∷ 0 ∷ 4 ∷ 0 ∷ 0 ∷ 0 ∷ 64 ∷ [])
-    ++ zeros 15
-    ++ (152 ∷ 2 ∷ 0 ∷ 0 ∷ 0 ∷ 0 ∷ 0 ∷ 0 ∷ 168 ∷ 0 ∷ 0 ∷ 0 ∷ 0 ∷ 0 ∷ 0 ∷ 0 ∷ 3 ∷ 0 ∷ 0 ∷ 0 ∷ 1 ∷ 0 ∷ 0 ∷ 0 ∷ 8 ∷ 0 ∷ 0 ∷ 0 ∷ 0 ∷ 0 ∷ 0 ∷ 0 ∷ [])
-    ++ (24 ∷ 0 ∷ 0 ∷ 0 ∷ 0 ∷ 0 ∷ 0 ∷ 0 ∷ 18 ∷ 0 ∷ 0 ∷ 0 ∷ 2 ∷ [])
-    ++ zeros 19
-    ++ (64 ∷ 3 ∷ 0 ∷ 0 ∷ 0 ∷ 0 ∷ 0 ∷ 0 ∷ 120 ∷ 0 ∷ 0 ∷ 0 ∷ 0 ∷ 0 ∷ 0 ∷ 0 ∷ 4 ∷ 0 ∷ 0 ∷ 0 ∷ 3 ∷ 0 ∷ 0 ∷ 0 ∷ 8 ∷ 0 ∷ 0 ∷ 0 ∷ 0 ∷ 0 ∷ 0 ∷ 0 ∷ [])
-    ++ (24 ∷ 0 ∷ 0 ∷ 0 ∷ 0 ∷ 0 ∷ 0 ∷ 0 ∷ 26 ∷ 0 ∷ 0 ∷ 0 ∷ 3 ∷ [])
-    ++ zeros 19
-    ++ (184 ∷ 3 ∷ 0 ∷ 0 ∷ 0 ∷ 0 ∷ 0 ∷ 0 ∷ 14 ∷ [])
-    ++ zeros 15
-    ++ (1 ∷ [])
-    ++ zeros 15
-    ++ (34 ∷ 0 ∷ 0 ∷ 0 ∷ 3 ∷ [])
-    ++ zeros 19
-    ++ (198 ∷ 3 ∷ 0 ∷ 0 ∷ 0 ∷ 0 ∷ 0 ∷ 0 ∷ 44 ∷ [])
-    ++ zeros 15
-    ++ (1 ∷ [])
-    ++ zeros 15
-
-refused_words_files : FileMap
-unfolding refused_words_input
-refused_words_files path =
-    if bytes_eq path (codes "a.o") then Some (record { bytes = refused_words_input; stamp = Some (record { length = 1400; modified = pos 1600000000000000000 }) }) else None
-
-refused_words_words : List (List ℕ)
-refused_words_words = codes "--export-dynamic" ∷ codes "-rpath=/r" ∷ codes "b.o" ∷ codes "-L" ∷ codes "-x" ∷ codes "--incremental-update" ∷ []
-
--- what is said: not built yet: words
-refused_words_said : said_of refused_words_words refused_words_files ≡ codes "not built yet: words" ++ 10 ∷ []
-unfolding refused_words_words refused_words_files said_of
-refused_words_said = refl

@@ -7,7 +7,6 @@ mod Computed
 mod FirstPathExamples
 pub mod Checks
 mod InputExamples
-mod PlainExamples
 mod ReadingExamples
 mod WordExamples
 pub mod Queues

@@ -2,7 +2,7 @@
 use Rattle.std.specs.Prelude.{◌≡◌, ℕ, List, [], ◌∷◌, ◌++◌, Option, Some, None, replicate, codes, refl, if◌then◌else◌, pos}
 use Rattle.std.specs.Str.{bytes_eq}
 use Rattle.lk_report.specs.FileMap.{FileMap}
-use Rattle.lk_model.proofs.Computed.{said_of, linked_of}
+use Rattle.lk_model.proofs.Computed.{static_said_of, linked_of}
 
 abbrev zeros : ℕ → List ℕ
 zeros n = replicate n 0
@@ -54,8 +54,8 @@ unfoldable pub smallest_words : List (List ℕ)
 smallest_words = codes "--incremental-full" ∷ codes "-o" ∷ codes "out" ∷ codes "a.o" ∷ []
 
 -- what is said: full link
-smallest_said : said_of smallest_words smallest_files ≡ codes "full link" ++ 10 ∷ []
-unfolding smallest_words smallest_files said_of
+smallest_said : static_said_of smallest_words smallest_files ≡ codes "full link" ++ 10 ∷ []
+unfolding smallest_words smallest_files static_said_of
 smallest_said = refl
 
 -- the image, 9192 bytes

@@ -4,7 +4,7 @@ use Rattle.lk_report.specs.declared.faults.UsageFault.TheVariants.{UnknownWord, 
 use Rattle.lk_model.specs.declared.commands.Item.TheVariants.{One, Lib}
 use Rattle.lk_model.specs.declared.commands.Mark.TheVariants.{Unknown, Changed, Unchanged}
 use Rattle.lk_model.specs.declared.commands.Mode.TheVariants.{Full, Update, Either}
-use Rattle.lk_model.specs.Grammar.{phrase_checks, with_input, put_word, whole_words, beginnings, meaning_of, phrases_from, checks_after, options_of, command_of, usage_checks, grammar, output_of_words, four_words, first_output_of}
+use Rattle.lk_model.specs.Grammar.{phrase_checks, with_input, put_word, whole_words, beginnings, meaning_of, phrases_from, checks_after, options_of, command_of, usage_checks, grammar, output_of_words}
 
 -- each fault of words
 usage_faults :
@@ -44,7 +44,7 @@ usage_faults :
     × (grammar (codes "--start-lib" ∷ codes "--end-lib" ∷ []) ≡ Err NoInput)
     × (grammar (codes "--thread-count" ∷ codes "17" ∷ codes "-o" ∷ codes "a" ∷ codes "-o" ∷ codes "b" ∷ []) ≡ Err (BadNumber 2))
     × (grammar (codes "-o" ∷ codes "a" ∷ codes "-o" ∷ (0 ∷ []) ∷ []) ≡ Err (TwoOutputs 3))
-unfolding phrase_checks with_input put_word whole_words beginnings meaning_of phrases_from checks_after options_of command_of usage_checks grammar output_of_words four_words first_output_of
+unfolding phrase_checks with_input put_word whole_words beginnings meaning_of phrases_from checks_after options_of command_of usage_checks grammar output_of_words
 usage_faults = (refl, refl, refl, refl, refl, refl, refl, refl, refl, refl, refl, refl, refl, refl, refl, refl, refl, refl, refl, refl, refl, refl, refl, refl, refl, refl, refl, refl, refl, refl, refl, refl, refl, refl, refl, refl)
 
 -- one input, and nothing else
@@ -58,7 +58,7 @@ one_input :
       items = One (record { text = codes "a.o"; library = false; mark = Unknown }) ∷ [];
       workers = 4;
     })
-unfolding phrase_checks with_input put_word whole_words beginnings meaning_of phrases_from checks_after options_of command_of usage_checks grammar output_of_words four_words first_output_of
+unfolding phrase_checks with_input put_word whole_words beginnings meaning_of phrases_from checks_after options_of command_of usage_checks grammar output_of_words
 one_input = refl
 
 -- words with everything
@@ -78,7 +78,7 @@ all_words :
           ∷ One (record { text = codes "a.o"; library = false; mark = Unknown }) ∷ [];
       workers = 16;
     })
-unfolding phrase_checks with_input put_word whole_words beginnings meaning_of phrases_from checks_after options_of command_of usage_checks grammar output_of_words four_words first_output_of
+unfolding phrase_checks with_input put_word whole_words beginnings meaning_of phrases_from checks_after options_of command_of usage_checks grammar output_of_words
 all_words = refl
 
 -- the last of repeated words counts; a base that is the output is none
@@ -101,7 +101,7 @@ last_words :
       items = One (record { text = codes "a.o"; library = false; mark = Unknown }) ∷ [];
       workers = 4;
     }))
-unfolding phrase_checks with_input put_word whole_words beginnings meaning_of phrases_from checks_after options_of command_of usage_checks grammar output_of_words four_words first_output_of
+unfolding phrase_checks with_input put_word whole_words beginnings meaning_of phrases_from checks_after options_of command_of usage_checks grammar output_of_words
 last_words = (refl, refl)
 
 -- the output of words, also of refused ones
@@ -109,19 +109,5 @@ outputs :
     (output_of_words (codes "a.o" ∷ codes "-o" ∷ codes "out" ∷ []) ≡ codes "out")
     × (output_of_words (codes "a.o" ∷ []) ≡ codes "a.out")
     × (output_of_words (codes "-o" ∷ codes "out" ∷ []) ≡ codes "a.out")
-    × (first_output_of (codes "--incremental-full" ∷ codes "-o" ∷ codes "out" ∷ codes "a.o" ∷ []) ≡ codes "out")
-    × (first_output_of (codes "-o" ∷ codes "out" ∷ codes "a.o" ∷ []) ≡ codes "a.out")
-unfolding phrase_checks with_input put_word whole_words beginnings meaning_of phrases_from checks_after options_of command_of usage_checks grammar output_of_words four_words first_output_of
-outputs = (refl, refl, refl, refl, refl)
-
--- the four words of a full link
-four :
-    (four_words (codes "--incremental-full" ∷ codes "-o" ∷ codes "out" ∷ codes "a.o" ∷ []) ≡ Some (codes "out", codes "a.o"))
-    × (four_words (codes "-o" ∷ codes "out" ∷ codes "a.o" ∷ []) ≡ None)
-    × (four_words (codes "--incremental-full" ∷ codes "-o" ∷ codes "out" ∷ codes "a.o" ∷ codes "b.o" ∷ []) ≡ None)
-    × (four_words (codes "--incremental-full" ∷ codes "-o" ∷ codes "-out" ∷ codes "a.o" ∷ []) ≡ None)
-    × (four_words (codes "--incremental-full" ∷ codes "-o" ∷ codes "out" ∷ [] ∷ []) ≡ None)
-    × (four_words (codes "--incremental-full" ∷ codes "-o" ∷ codes "out" ∷ (97 ∷ 0 ∷ []) ∷ []) ≡ None)
-    × (four_words (codes "--incremental-full" ∷ codes "out" ∷ codes "-o" ∷ codes "a.o" ∷ []) ≡ None)
-unfolding phrase_checks with_input put_word whole_words beginnings meaning_of phrases_from checks_after options_of command_of usage_checks grammar output_of_words four_words first_output_of
-four = (refl, refl, refl, refl, refl, refl, refl)
+unfolding phrase_checks with_input put_word whole_words beginnings meaning_of phrases_from checks_after options_of command_of usage_checks grammar output_of_words
+outputs = (refl, refl, refl)

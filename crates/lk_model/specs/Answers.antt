@@ -1,13 +1,12 @@
 -- The answer of a link: the first refusal in the order of the work, or that it is done (this
--- project's own). Two stages of the linker: the four words with a plain object, and static links.
+-- project's own), of static links.
 -- Failures of the outside and want of memory are no part of it.
-use Rattle.std.specs.Prelude.{ℕ, ◌+◌, ◌==◌, ◌^◌, ◌*◌, Bool, true, false, List, [], ◌∷◌, length, filter, filter_map, find, Option, Some, None, Result, Ok, Err, nat_lt, not, ◌&&◌, ◌||◌, if◌then◌else◌, option_map}
+use Rattle.std.specs.Prelude.{ℕ, ◌+◌, ◌==◌, ◌^◌, ◌*◌, Bool, true, false, List, [], ◌∷◌, length, filter_map, find, Option, Some, None, Result, Ok, Err, nat_lt, not, ◌&&◌, ◌||◌, if◌then◌else◌, option_map}
 use Rattle.std.specs.List.{list_any, filter_map, flat_map}
-use Rattle.lk_report.specs.FileMap.{FileMap, FileRow}
+use Rattle.lk_report.specs.FileMap.{FileMap}
 use Rattle.lk_report.specs.declared.faults.Fault.{Fault}
 use Rattle.lk_report.specs.declared.faults.Fault.TheVariants as fault
 use Rattle.lk_report.specs.declared.faults.InputFault.{InputFault}
-use Rattle.lk_report.specs.declared.faults.InputFault.TheVariants as input_fault
 use Rattle.lk_report.specs.declared.statuses.LimitKind.{LimitKind}
 use Rattle.lk_report.specs.declared.statuses.LimitKind.TheVariants as limit
 use Rattle.lk_report.specs.declared.statuses.Outcome.TheVariants as outcome
@@ -16,17 +15,16 @@ use Rattle.lk_report.specs.declared.statuses.Status.TheVariants as status
 use Rattle.lk_report.specs.declared.statuses.Waiting.TheVariants as waiting
 use Rattle.lk_model.specs.FileHeader.{exec_stack_of}
 use Rattle.lk_model.specs.FullPlace.{full_place, memory_of, section_count}
-use Rattle.lk_model.specs.Grammar.{grammar, four_words}
+use Rattle.lk_model.specs.Grammar.{grammar}
 use Rattle.lk_model.specs.Inputs.{inputs_of, missing_of, input_words}
 use Rattle.lk_model.specs.Kinds.{kind_of}
 use Rattle.lk_model.specs.Links.{resolved_of}
 use Rattle.lk_model.specs.ObjectChecks.{object_fault}
 use Rattle.lk_model.specs.Overflows.{overflow_faults}
-use Rattle.lk_model.specs.Plain.{is_plain}
 use Rattle.lk_model.specs.ResolveFaults.{resolve_faults, name_count}
 use Rattle.lk_model.specs.ScanFaults.{scan_faults}
 use Rattle.lk_model.specs.Segments.{program_headers}
-use Rattle.lk_model.specs.Tail.{Part, tail_parts, headers_offset, section_headers}
+use Rattle.lk_model.specs.Tail.{Part, tail_parts, headers_offset}
 use Rattle.lk_model.specs.Views.{Resolved, Input}
 use Rattle.lk_model.specs.declared.commands.Command.{Command}
 use Rattle.lk_model.specs.declared.commands.Item.{Item}
@@ -200,38 +198,6 @@ unfoldable pub static_answer : List (List ℕ) → FileMap → Status
 static_answer words files =
     elim (grammar words) [ Err u ↦ status.Usage u | Ok c ↦ command_answer c files ]
 
--- the answer of the four words: a file that is no ELF file is told, any other that is not plain waits
-abbrev pub is_no_elf : Result Kind InputFault → Bool
-is_no_elf (Ok k) = false
-is_no_elf (Err f) = elim f [ input_fault.NotElf ↦ true | _ ↦ false ]
-
--- the answer of a plain object's link; one that exceeds a limit waits like any other form
-abbrev pub limited_answer : Resolved → List ℕ → Status
-limited_answer r path =
-    elim (placement_limit r (full_place r)) [
-      | Some s ↦ status.NotYet (waiting.Form path)
-      | None ↦ elim (fault_status (scan_faults r)) [
-        | Some s ↦ s
-        | None ↦ elim (fault_status (overflow_faults r (full_place r))) [ Some s ↦ s | None ↦ full_link ]
-      ]
-    ]
-
-abbrev pub plain_answer : Command → FileMap → List ℕ → List ℕ → Status
-plain_answer c files path bytes =
-    if is_no_elf (kind_of bytes) then status.LinkError (fault.Input path input_fault.NotElf ∷ [])
-    else (if is_plain bytes then limited_answer (resolved_of c files) path else status.NotYet (waiting.Form path))
-
--- the command that the four words are
+-- the command that words are, where they are accepted
 abbrev pub accepted_command : List (List ℕ) → Option Command
 accepted_command words = elim (grammar words) [ Err u ↦ None | Ok c ↦ Some c ]
-
-abbrev pub file_answer : Command → FileMap → List ℕ → Option FileRow → Status
-file_answer c files path None = status.LinkError (fault.Missing path ∷ [])
-file_answer c files path (Some row) = plain_answer c files path row.bytes
-
-unfoldable pub first_answer : List (List ℕ) → FileMap → Status
-first_answer words files =
-    elim (four_words words) [
-      | None ↦ status.NotYet waiting.Words
-      | Some (out, path) ↦ elim (accepted_command words) [ None ↦ status.NotYet waiting.Words | Some c ↦ file_answer c files path (files path) ]
-    ]

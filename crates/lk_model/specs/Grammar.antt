@@ -389,26 +389,3 @@ output_where (Err fault) = codes "a.out"
 -- the path of the output, also where the words are refused
 unfoldable pub output_of_words : List (List ℕ) → List ℕ
 output_of_words words = output_where (grammar words)
-
--- ---- the four words of a full link of one input
-
--- a word that names a file: not empty, not beginning with a dash, without a zero byte
-abbrev pub names_file : List ℕ → Bool
-names_file word = is_path word && not (holds_zero word)
-
--- OUT and IN of exactly the words `--incremental-full`, `-o`, OUT, IN
-unfoldable pub four_words : List (List ℕ) → Option (List ℕ × List ℕ)
-four_words (mode ∷ option ∷ output ∷ input ∷ []) =
-    then_some
-    (bytes_eq mode (codes "--incremental-full") && bytes_eq option (codes "-o") && names_file output && names_file input)
-    (output, input)
-four_words other = None
-
--- the output of the four words, or of other words
-abbrev pub first_output_where : Option (List ℕ × List ℕ) → List ℕ
-first_output_where (Some words) = words.0
-first_output_where None = codes "a.out"
-
--- the path of the output where only the four words are taken
-unfoldable pub first_output_of : List (List ℕ) → List ℕ
-first_output_of words = first_output_where (four_words words)

@@ -49,7 +49,6 @@ pub mod FirstFit
 pub mod Grammar
 pub mod Inputs
 pub mod ObjectChecks
-pub mod Plain
 pub mod Links
 pub mod Overflows
 pub mod Answers
