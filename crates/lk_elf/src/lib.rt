@@ -18,8 +18,6 @@ mod program_header;
 mod relocation;
 mod section_header;
 mod symbol;
-#[cfg(test)]
-mod tests;
 
 pub use dynamic_entry::Dyn;
 pub use file_header::Ehdr;

@@ -29,8 +29,6 @@ mod section_rows;
 mod section_table;
 mod segments;
 mod shown;
-#[cfg(test)]
-mod tests;
 mod thread;
 mod thread_block;
 

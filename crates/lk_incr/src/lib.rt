@@ -26,8 +26,6 @@ mod placed_pieces;
 mod putting;
 mod summaries;
 mod tail_parts;
-#[cfg(test)]
-mod tests;
 mod text_table;
 
 pub use inputs_section::{InputsAndTexts, write_inputs};

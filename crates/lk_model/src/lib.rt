@@ -18,5 +18,3 @@ pub mod laws;
 pub mod layouts;
 pub mod records;
 pub mod summaries;
-#[cfg(test)]
-mod tests;

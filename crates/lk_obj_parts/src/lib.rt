@@ -13,25 +13,17 @@
 
 mod file_table;
 mod group_checks;
-#[cfg(test)]
-mod group_tests;
 mod groups;
 mod overlaps;
 mod pieces;
 mod relocation_checks;
-#[cfg(test)]
-mod relocation_tests;
 mod relocations;
 mod section_checks;
 mod signatures;
 mod symbol_checks;
 mod symbol_tables;
-#[cfg(test)]
-mod symbol_tests;
 mod symbols;
 mod target_rows;
-#[cfg(test)]
-mod tests;
 mod texts;
 
 pub use file_table::read_sections;

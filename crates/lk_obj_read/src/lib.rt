@@ -19,22 +19,12 @@ mod file_parts;
 mod local_symbols;
 mod object_checks;
 mod object_reading;
-#[cfg(test)]
-mod object_reading_tests;
-#[cfg(test)]
-mod object_tests;
 mod objects;
 mod pieces;
-#[cfg(test)]
-mod relocated_tests;
-#[cfg(test)]
-mod relocation_list_tests;
 mod relocation_lists;
 mod relocation_marks;
 mod stack_requests;
 mod summaries;
-#[cfg(test)]
-mod summary_tests;
 mod symbol_places;
 
 pub use failures::ReadFailure;

@@ -54,3 +54,10 @@ before_1970 = refl
 
 last_time : nanoseconds (pos 9223372036) (pos 854775807) ≡ pos (2 ^ 63 - 1)
 last_time = refl
+
+-- the first time that fits, and one past the last
+first_time : nanoseconds (negsuc 9223372036) (pos 145224192) ≡ negsuc (2 ^ 63 - 1)
+first_time = refl
+
+past_the_last_time : nanoseconds (pos 9223372036) (pos 854775808) ≡ pos (2 ^ 63)
+past_the_last_time = refl

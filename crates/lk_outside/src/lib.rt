@@ -21,14 +21,10 @@ mod files;
 mod host_device;
 mod host_files;
 mod host_sink;
-#[cfg(test)]
-mod host_tests;
 mod host_times;
 mod memory_device;
 mod memory_files;
 mod memory_sink;
-#[cfg(test)]
-mod memory_tests;
 mod sure_device;
 mod sure_files;
 mod sure_sink;

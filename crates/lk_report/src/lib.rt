@@ -26,8 +26,6 @@ mod sinks;
 mod stamps;
 mod status_texts;
 mod statuses;
-#[cfg(test)]
-mod tests;
 
 pub use causes::{Cause, OptionRecord};
 pub use contents::Bytes;

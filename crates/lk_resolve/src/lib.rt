@@ -24,8 +24,6 @@ mod section_places;
 mod section_sets;
 mod settle_faults;
 mod settling;
-#[cfg(test)]
-mod tests;
 mod wanted_names;
 
 pub use resolution::Resolution;

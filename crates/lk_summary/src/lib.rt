@@ -7,8 +7,6 @@
 #![tactic(auto)]
 
 mod kinds;
-#[cfg(test)]
-mod tests;
 
 pub use kinds::kind_of;
 pub use lk_model::layouts::{Class, SectionKey};

@@ -22,8 +22,6 @@ mod putting;
 mod size_rows;
 mod sizing;
 mod slot_rows;
-#[cfg(test)]
-mod tests;
 mod text_table;
 
 pub use dynamic_rows::{copied_names, dynamic_names};

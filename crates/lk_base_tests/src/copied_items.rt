@@ -1,9 +1,9 @@
 //! Each copy is made, with memory at hand, and is equal.
 
-use crate::commands::{Mark, Word};
-use crate::layouts::{Class, SectionKey, SectionRow};
-use crate::records::NameRow;
-use crate::summaries::{Contribution, Global, Home, Kind, PieceInfo};
+use lk_model::commands::{Mark, Word};
+use lk_model::layouts::{Class, SectionKey, SectionRow};
+use lk_model::records::NameRow;
+use lk_model::summaries::{Contribution, Global, Home, Kind, PieceInfo};
 use lk_report::{Name, NoMemory};
 use std::alloc::Global as Memory;
 

@@ -1,25 +1,19 @@
-//! The objects in memory: each call once, and a failure of each call. A helper has no clauses, so
-//! that a test stays small to prove.
+//! The outside in memory: each call once, and a failure of each call.
 
-use crate::{
+use lk_outside::{
     Answer, Device, Files, FreeTurnstile, LengthAnswer, MemoryDevice, MemoryFiles, MemorySink,
     ReadAnswer, Sink, Stamp, StatAnswer, SureDevice, SureFiles, SureSink, Turnstile,
 };
-use lk_report::{Bytes, Name};
+use lk_report::{Bytes, Name, NoMemory};
 use std::alloc::Global;
-use std::test::Fail;
 
 const STAMP: Stamp = Stamp {
     length: 3,
     modified: -7,
 };
 
-fn bytes(alloc: Global, of: &[u8]) -> Result<Bytes, Fail> {
-    Ok(Bytes::from_slice(alloc, of)?)
-}
-
 /// Whether the read got these bytes.
-fn is_got(answer: &ReadAnswer, bytes: &[u8]) -> bool {
+pub fn is_got(answer: &ReadAnswer, bytes: &[u8]) -> bool {
     match answer {
         ReadAnswer::Got(got) => got.as_slice() == bytes,
         _ => false,
@@ -47,40 +41,66 @@ fn failures<F: Files>(files: &mut F, path: &Name) -> (bool, bool) {
     (stat, read)
 }
 
+/// Whether a file of these bytes was put.
+fn is_put(
+    files: &mut MemoryFiles,
+    path: &str,
+    bytes: Result<Bytes, NoMemory>,
+    stamp: Option<Stamp>,
+) -> bool {
+    match bytes {
+        Ok(bytes) => files.put(path, bytes, stamp).is_ok(),
+        Err(_) => false,
+    }
+}
+
+fn bytes(alloc: Global, of: &[u8]) -> Result<Bytes, NoMemory> {
+    Bytes::from_slice(alloc, of)
+}
+
 #[test]
-fn files_in_memory_are_found_and_read(rt: HostRuntime) -> Result<(), Fail> {
-    let alloc = rt.alloc();
-    let mut files = MemoryFiles::new(alloc);
-    let path = Name::from_slice(alloc, b"a.o")?;
+fn files_in_memory_are_found_and_read(rt: HostRuntime) -> Result<(), NoMemory> {
+    let path = Name::from_slice(rt.alloc(), b"a.o")?;
+    let mut files = MemoryFiles::new(rt.alloc());
     assert!(rt; is_absent(&mut files, &path));
-    files.put("a.o", bytes(alloc, b"old")?, None)?;
+    assert!(rt; is_put(&mut files, "a.o", bytes(rt.alloc(), b"old"), None));
     assert!(rt; is_there(&mut files, &path, None, b"old"));
-    files.put("b.o", bytes(alloc, b"other")?, None)?;
-    files.put("a.o", bytes(alloc, b"new")?, Some(STAMP))?;
+    assert!(rt; is_put(&mut files, "b.o", bytes(rt.alloc(), b"other"), None));
+    assert!(rt; is_put(&mut files, "a.o", bytes(rt.alloc(), b"new"), Some(STAMP)));
     assert!(rt; is_there(&mut files, &path, Some(STAMP), b"new"));
     assert_eq!(rt; files.reads(), 3);
     Ok(())
 }
 
+/// Which calls fail, the look-up or the read, where the call of this number is to.
+fn failures_at(alloc: Global, path: &Name, n: u64) -> (bool, bool) {
+    let mut files = MemoryFiles::new(alloc);
+    files.fail_call(n);
+    failures(&mut files, path)
+}
+
 #[test]
-fn a_named_call_on_files_fails(rt: HostRuntime) -> Result<(), Fail> {
-    let alloc = rt.alloc();
+fn a_named_call_on_files_fails(rt: HostRuntime) -> Result<(), NoMemory> {
+    let path = Name::from_slice(rt.alloc(), b"a.o")?;
     for (n, stat, read) in [(1, true, false), (2, false, true), (3, false, false)] {
-        let mut files = MemoryFiles::new(alloc);
-        let path = Name::from_slice(alloc, b"a.o")?;
-        files.fail_call(n);
-        assert_eq!(rt; failures(&mut files, &path), (stat, read), "call {n}");
+        assert_eq!(rt; failures_at(rt.alloc(), &path, n), (stat, read), "call {n}");
     }
     Ok(())
 }
 
+/// Files that never fail, with one of the bytes `abc` at `a.o`.
+fn with_abc(alloc: Global, mut files: SureFiles) -> Result<SureFiles, NoMemory> {
+    let bytes = Bytes::from_slice(alloc, b"abc")?;
+    files.put("a.o", bytes, Some(STAMP))?;
+    Ok(files)
+}
+
 #[test]
-fn sure_files_are_found_and_read(rt: HostRuntime) -> Result<(), Fail> {
-    let alloc = rt.alloc();
-    let mut files = SureFiles::new(alloc);
-    let path = Name::from_slice(alloc, b"a.o")?;
-    assert!(rt; is_absent(&mut files, &path));
-    files.put("a.o", bytes(alloc, b"abc")?, Some(STAMP))?;
+fn sure_files_are_found_and_read(rt: HostRuntime) -> Result<(), NoMemory> {
+    let path = Name::from_slice(rt.alloc(), b"a.o")?;
+    let mut none = SureFiles::new(rt.alloc());
+    assert!(rt; is_absent(&mut none, &path));
+    let mut files = with_abc(rt.alloc(), none)?;
     assert!(rt; is_there(&mut files, &path, Some(STAMP), b"abc"));
     assert_eq!(rt; files.reads(), 2);
     Ok(())
@@ -122,10 +142,13 @@ fn calls_done(device: &mut MemoryDevice) -> [bool; 5] {
     [length, read, written, synced, cut]
 }
 
+fn device_of(alloc: Global, bytes: &[u8]) -> Result<MemoryDevice, NoMemory> {
+    Ok(MemoryDevice::of(alloc, Bytes::from_slice(alloc, bytes)?))
+}
+
 #[test]
-fn a_device_in_memory_takes_writes_and_cuts(rt: HostRuntime) -> Result<(), Fail> {
-    let alloc = rt.alloc();
-    let mut device = MemoryDevice::of(alloc, bytes(alloc, b"abcdef")?);
+fn a_device_in_memory_takes_writes_and_cuts(rt: HostRuntime) -> Result<(), NoMemory> {
+    let mut device = device_of(rt.alloc(), b"abcdef")?;
     for (at, text, after) in [
         (1, b"XY".as_slice(), b"aXYdef".as_slice()),
         (5, b"+--".as_slice(), b"aXYde+--".as_slice()),
@@ -139,9 +162,17 @@ fn a_device_in_memory_takes_writes_and_cuts(rt: HostRuntime) -> Result<(), Fail>
     Ok(())
 }
 
+/// Which of the five calls were done on `abc` where the call of this number is to fail, and whether
+/// the device then holds the bytes `after`.
+fn calls_done_but(alloc: Global, n: u64, after: &[u8]) -> Result<([bool; 5], bool), NoMemory> {
+    let mut device = device_of(alloc, b"abc")?;
+    device.fail_call(n);
+    let done = calls_done(&mut device);
+    Ok((done, device.bytes() == after))
+}
+
 #[test]
-fn a_named_call_on_a_device_fails(rt: HostRuntime) -> Result<(), Fail> {
-    let alloc = rt.alloc();
+fn a_named_call_on_a_device_fails(rt: HostRuntime) -> Result<(), NoMemory> {
     for (n, after) in [
         (1, b"x".as_slice()),
         (2, b"x".as_slice()),
@@ -149,12 +180,12 @@ fn a_named_call_on_a_device_fails(rt: HostRuntime) -> Result<(), Fail> {
         (4, b"x".as_slice()),
         (5, b"xbc".as_slice()),
     ] {
-        let mut device = MemoryDevice::of(alloc, bytes(alloc, b"abc")?);
-        device.fail_call(n);
-        for (done, call) in calls_done(&mut device).iter().zip(1u64..6) {
-            assert_eq!(rt; *done, call != n);
-        }
-        assert_eq!(rt; device.bytes(), after);
+        let done = [n != 1, n != 2, n != 3, n != 4, n != 5];
+        assert_eq!(rt;
+            calls_done_but(rt.alloc(), n, after)?,
+            (done, true),
+            "call {n}"
+        );
     }
     Ok(())
 }
@@ -169,9 +200,9 @@ fn use_sure_device(device: &mut SureDevice) -> [bool; 4] {
 }
 
 #[test]
-fn a_sure_device_takes_writes_and_cuts(rt: HostRuntime) -> Result<(), Fail> {
-    let alloc = rt.alloc();
-    let mut device = SureDevice::of(alloc, bytes(alloc, b"abc")?);
+fn a_sure_device_takes_writes_and_cuts(rt: HostRuntime) -> Result<(), NoMemory> {
+    let bytes = Bytes::from_slice(rt.alloc(), b"abc")?;
+    let mut device = SureDevice::of(rt.alloc(), bytes);
     let mut into = [0u8; 0];
     assert_eq!(rt; device.read_at(0, &mut into), Answer::Done);
     assert_eq!(rt; use_sure_device(&mut device), [true; 4]);
@@ -187,15 +218,19 @@ fn put_twice<S: Sink>(sink: &mut S, text: &[u8]) -> (Answer, Answer) {
 }
 
 #[test]
-fn sinks_in_memory_keep_what_is_put(rt: HostRuntime) {
+fn a_sink_in_memory_keeps_what_is_put(rt: HostRuntime) {
     let mut sink = MemorySink::new(rt.alloc());
     sink.fail_call(4);
     assert_eq!(rt; put_twice(&mut sink, b"ab"), (Answer::Done, Answer::Done));
     assert_eq!(rt; put_twice(&mut sink, b"c"), (Answer::Done, Answer::Failed));
     assert_eq!(rt; sink.bytes(), b"ababc".as_slice());
-    let mut sure = SureSink::new(rt.alloc());
-    assert_eq!(rt; put_twice(&mut sure, b"ab"), (Answer::Done, Answer::Done));
-    assert_eq!(rt; sure.bytes(), b"abab".as_slice());
+}
+
+#[test]
+fn a_sure_sink_keeps_what_is_put(rt: HostRuntime) {
+    let mut sink = SureSink::new(rt.alloc());
+    assert_eq!(rt; put_twice(&mut sink, b"ab"), (Answer::Done, Answer::Done));
+    assert_eq!(rt; sink.bytes(), b"abab".as_slice());
 }
 
 /// Enters a gate.

@@ -3,15 +3,14 @@
 
 ghost use Rattle.std.specs.Prelude.{◌^◌, ◌<◌, ◌≤◌, length};
 
-use crate::{overlap_fault, rela_faults, relas_under, width_of};
+use crate::headers::{NO_SECTION, NO_SECTIONS, NO_SYMBOL, Told};
 use lk_elf::numbers::{
-    ET_REL, SHF_ALLOC, SHF_EXECINSTR, SHF_WRITE, SHT_NOBITS, SHT_NULL, SHT_PROGBITS, SHT_RELA,
-    SHT_STRTAB, SHT_SYMTAB,
+    SHF_ALLOC, SHF_EXECINSTR, SHF_WRITE, SHT_NOBITS, SHT_PROGBITS, SHT_RELA, SHT_STRTAB, SHT_SYMTAB,
 };
-use lk_elf::{Ehdr, Rela, Shdr, Sym};
-use lk_report::InputFault;
+use lk_elf::{Ehdr, Rela, Shdr};
+use lk_obj_parts::{overlap_fault, rela_faults, relas_under, width_of};
+use lk_report::{InputFault, NoMemory};
 use std::alloc::Global;
-use std::test::Fail;
 
 /// Names, 16 bytes of code, and four relocations.
 const SIZE: usize = 128;
@@ -19,33 +18,9 @@ const SIZE: usize = 128;
 const NAMES: [u8; 16] = *b"\0.text\0.data\0...";
 
 const HEADER: Ehdr = Ehdr {
-    e_ident: [0x7f, b'E', b'L', b'F', 2, 1, 1, 0, 0, 0, 0, 0, 0, 0, 0, 0],
-    e_type: ET_REL,
-    e_machine: 62,
-    e_version: 1,
-    e_entry: 0,
-    e_phoff: 0,
-    e_shoff: 0,
-    e_flags: 0,
-    e_ehsize: 64,
-    e_phentsize: 0,
-    e_phnum: 0,
-    e_shentsize: 64,
     e_shnum: 7,
     e_shstrndx: 2,
-};
-
-const NOTHING: Shdr = Shdr {
-    sh_name: 0,
-    sh_type: SHT_NULL,
-    sh_flags: 0,
-    sh_addr: 0,
-    sh_offset: 0,
-    sh_size: 0,
-    sh_link: 0,
-    sh_info: 0,
-    sh_addralign: 0,
-    sh_entsize: 0,
+    ..NO_SECTIONS
 };
 
 const TEXT: Shdr = Shdr {
@@ -54,20 +29,20 @@ const TEXT: Shdr = Shdr {
     sh_flags: SHF_ALLOC + SHF_EXECINSTR,
     sh_offset: 16,
     sh_size: 16,
-    ..NOTHING
+    ..NO_SECTION
 };
 
 const TITLES: Shdr = Shdr {
     sh_type: SHT_STRTAB,
     sh_size: 16,
-    ..NOTHING
+    ..NO_SECTION
 };
 
 const SYMBOLS: Shdr = Shdr {
     sh_type: SHT_SYMTAB,
     sh_link: 2,
     sh_entsize: 24,
-    ..NOTHING
+    ..NO_SECTION
 };
 
 /// Two relocations of the code.
@@ -78,7 +53,7 @@ const FIRST: Shdr = Shdr {
     sh_link: 3,
     sh_info: 1,
     sh_entsize: 24,
-    ..NOTHING
+    ..NO_SECTION
 };
 
 /// Two more.
@@ -93,16 +68,7 @@ const DATA: Shdr = Shdr {
     sh_flags: SHF_ALLOC + SHF_WRITE,
     sh_offset: 16,
     sh_size: 16,
-    ..NOTHING
-};
-
-const NULL: Sym = Sym {
-    st_name: 0,
-    st_info: 0,
-    st_other: 0,
-    st_shndx: 0,
-    st_value: 0,
-    st_size: 0,
+    ..NO_SECTION
 };
 
 /// A relocation of this type through symbol 1.
@@ -138,40 +104,28 @@ fn file(a: Rela, b: Rela, c: Rela, d: Rela) -> [u8; SIZE] {
 
 /// The first fault of the relocations of a file with these sections 1, 4 and 5, in which section 6 is
 /// data; it has two symbols.
-fn told(
-    alloc: Global,
-    bytes: &[u8],
-    text: Shdr,
-    first: Shdr,
-    second: Shdr,
-) -> Result<Option<InputFault>, Fail>
+fn told(alloc: Global, bytes: &[u8], text: Shdr, first: Shdr, second: Shdr) -> Told
     requires { length bytes.now ≤ 1000 }
 {
-    let sections = [NOTHING, text, TITLES, SYMBOLS, first, second, DATA];
-    match rela_faults(bytes, &HEADER, &sections, &[NULL, NULL]) {
+    let sections = [NO_SECTION, text, TITLES, SYMBOLS, first, second, DATA];
+    match rela_faults(bytes, &HEADER, &sections, &[NO_SYMBOL, NO_SYMBOL]) {
         Some(fault) => Ok(Some(fault)),
-        None => Ok(overlap_fault(alloc, bytes, &HEADER, &sections)?),
+        None => overlap_fault(alloc, bytes, &HEADER, &sections),
     }
 }
 
 /// The fault of four relocations of the code, two in each section.
-fn four_told(
-    alloc: Global,
-    a: Rela,
-    b: Rela,
-    c: Rela,
-    d: Rela,
-) -> Result<Option<InputFault>, Fail> {
+fn four_told(alloc: Global, a: Rela, b: Rela, c: Rela, d: Rela) -> Told {
     told(alloc, &file(a, b, c, d), TEXT, FIRST, SECOND)
 }
 
 /// The fault where the last of three fields apart is this one.
-fn last_told(alloc: Global, d: Rela) -> Result<Option<InputFault>, Fail> {
+fn last_told(alloc: Global, d: Rela) -> Told {
     four_told(alloc, four(0), none(16), four(8), d)
 }
 
 /// The fault where section 4 has this header, and fields are apart.
-fn first_told(alloc: Global, first: Shdr) -> Result<Option<InputFault>, Fail> {
+fn first_told(alloc: Global, first: Shdr) -> Told {
     told(
         alloc,
         &file(four(0), four(4), four(8), four(12)),
@@ -182,7 +136,7 @@ fn first_told(alloc: Global, first: Shdr) -> Result<Option<InputFault>, Fail> {
 }
 
 #[test]
-fn fields_share_a_byte(rt: HostRuntime) -> Result<(), Fail> {
+fn fields_share_a_byte(rt: HostRuntime) {
     let second = Some(InputFault::BadRela(4, 1));
     let cases = [
         (four(0), four(4), None),
@@ -193,13 +147,12 @@ fn fields_share_a_byte(rt: HostRuntime) -> Result<(), Fail> {
         (none(0), none(0), None),
     ];
     for (a, b, wanted) in cases {
-        assert_eq!(rt; four_told(rt.alloc(), a, b, none(0), none(0))?, wanted);
+        assert_eq!(rt; four_told(rt.alloc(), a, b, none(0), none(0)), Ok(wanted));
     }
-    Ok(())
 }
 
 #[test]
-fn fields_of_two_sections_share_a_byte(rt: HostRuntime) -> Result<(), Fail> {
+fn fields_of_two_sections_share_a_byte(rt: HostRuntime) {
     let last = Some(InputFault::BadRela(5, 1));
     let cases = [
         (four(0), last),
@@ -211,13 +164,12 @@ fn fields_of_two_sections_share_a_byte(rt: HostRuntime) -> Result<(), Fail> {
         (none(1), None),
     ];
     for (d, wanted) in cases {
-        assert_eq!(rt; last_told(rt.alloc(), d)?, wanted);
+        assert_eq!(rt; last_told(rt.alloc(), d), Ok(wanted));
     }
-    Ok(())
 }
 
 #[test]
-fn each_target_has_its_own_fields(rt: HostRuntime) -> Result<(), Fail> {
+fn each_target_has_its_own_fields(rt: HostRuntime) {
     let data = Shdr {
         sh_info: 6,
         ..SECOND
@@ -236,9 +188,8 @@ fn each_target_has_its_own_fields(rt: HostRuntime) -> Result<(), Fail> {
     ];
     for (d, second, wanted) in cases {
         let bytes = file(four(0), four(4), four(0), d);
-        assert_eq!(rt; told(rt.alloc(), &bytes, TEXT, FIRST, second)?, wanted);
+        assert_eq!(rt; told(rt.alloc(), &bytes, TEXT, FIRST, second), Ok(wanted));
     }
-    Ok(())
 }
 
 /// A relocation without a field through symbol 2, which is not there.
@@ -250,7 +201,7 @@ fn past() -> Rela {
 }
 
 #[test]
-fn an_entry_is_told(rt: HostRuntime) -> Result<(), Fail> {
+fn an_entry_is_told(rt: HostRuntime) {
     let last = Some(InputFault::BadRela(5, 1));
     let cases = [
         (past(), last),
@@ -260,35 +211,32 @@ fn an_entry_is_told(rt: HostRuntime) -> Result<(), Fail> {
         (four(u64::MAX), last),
     ];
     for (d, wanted) in cases {
-        assert_eq!(rt; last_told(rt.alloc(), d)?, wanted);
+        assert_eq!(rt; last_told(rt.alloc(), d), Ok(wanted));
     }
-    Ok(())
 }
 
 #[test]
-fn zeros_have_no_fields(rt: HostRuntime) -> Result<(), Fail> {
+fn zeros_have_no_fields(rt: HostRuntime) {
     let zeros = Shdr {
         sh_type: SHT_NOBITS,
         ..TEXT
     };
     let bytes = file(none(0), none(0), none(0), none(0));
     let wanted = Some(InputFault::BadRela(4, 0));
-    assert_eq!(rt; told(rt.alloc(), &bytes, zeros, FIRST, SECOND)?, wanted);
-    Ok(())
+    assert_eq!(rt; told(rt.alloc(), &bytes, zeros, FIRST, SECOND), Ok(wanted));
 }
 
 #[test]
-fn a_later_entry_is_told_before_an_overlap(rt: HostRuntime) -> Result<(), Fail> {
+fn a_later_entry_is_told_before_an_overlap(rt: HostRuntime) {
     let wanted = Some(InputFault::BadRela(5, 1));
     assert_eq!(rt;
-        four_told(rt.alloc(), four(0), four(0), none(0), past())?,
-        wanted
+        four_told(rt.alloc(), four(0), four(0), none(0), past()),
+        Ok(wanted)
     );
-    Ok(())
 }
 
 #[test]
-fn a_section_of_relocations_is_told(rt: HostRuntime) -> Result<(), Fail> {
+fn a_section_of_relocations_is_told(rt: HostRuntime) {
     let bad = Some(InputFault::BadTable(4));
     let wide = Shdr {
         sh_entsize: 25,
@@ -319,17 +267,21 @@ fn a_section_of_relocations_is_told(rt: HostRuntime) -> Result<(), Fail> {
         (beyond, bad),
     ];
     for (first, wanted) in cases {
-        assert_eq!(rt; first_told(rt.alloc(), first)?, wanted);
+        assert_eq!(rt; first_told(rt.alloc(), first), Ok(wanted));
     }
-    Ok(())
 }
 
 #[test]
-fn entries_and_widths_are_read(rt: HostRuntime) -> Result<(), Fail> {
+fn entries_are_read(rt: HostRuntime) -> Result<(), NoMemory> {
     let bytes = file(four(0), none(0), none(0), four(12));
     let relas = relas_under(rt.alloc(), &bytes, &SECOND)?;
     assert_eq!(rt; relas.len(), 2);
     assert_eq!(rt; relas[1], four(12));
+    Ok(())
+}
+
+#[test]
+fn widths_are_told(rt: HostRuntime) {
     for (code, width) in [
         (0, 0),
         (1, 8),
@@ -342,5 +294,4 @@ fn entries_and_widths_are_read(rt: HostRuntime) -> Result<(), Fail> {
     ] {
         assert_eq!(rt; width_of(code), width);
     }
-    Ok(())
 }

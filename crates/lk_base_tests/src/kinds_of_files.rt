@@ -1,8 +1,8 @@
 //! Each kind and each fault, told of the first bytes of a file.
 
-use crate::kinds::kind_of;
 use lk_model::summaries::Kind;
 use lk_report::InputFault;
+use lk_summary::kind_of;
 
 /// The header of a relocatable object: class 64, little-endian, version 1, x86-64.
 const OBJECT: [u8; 64] = [
