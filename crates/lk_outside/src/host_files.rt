@@ -75,11 +75,12 @@ fn stamp_of(metadata: &Metadata) -> Option<Stamp> {
     })
 }
 
-/// All bytes of a file.
+/// All bytes of a file. There is room for one byte more than its length, so that its end is found without
+/// moving the bytes.
 fn bytes_at(rt: &HostRuntime, path: &Name) -> io::Result<Bytes> {
     let mut file = File::open(rt, path_text(path)?)?;
-    let length = file.metadata()?.len();
-    let mut bytes = Vec::with_capacity(rt.alloc(), length as usize)?;
+    let room = file.metadata()?.len().saturating_add(1);
+    let mut bytes = Vec::with_capacity(rt.alloc(), room as usize)?;
     file.read_to_end(&mut bytes)?;
     Ok(Bytes::from_vec(bytes))
 }

@@ -29,13 +29,17 @@ impl Model for Row {
     ghost invariant = { λ r. r.best ≡ best_of r.contributions };
 }
 
-/// The list of one symbol.
+/// The list of one symbol, with no room to spare: most names have no second one.
 fn list_of(alloc: Global, symbol: Contribution) -> Result<ContributionList, NoMemory>
     ensures { IfOk result (λ list. list ≡ symbol ∷ []) }
 {
-    let mut list = List::new(alloc);
-    list.push(symbol)?;
-    Ok(list)
+    let Ok(mut list) = Vec::with_capacity(alloc, 1) else {
+        return Err(NoMemory);
+    };
+    match list.push(symbol) {
+        Ok(()) => Ok(List::from_vec(list)),
+        Err(_) => Err(NoMemory),
+    }
 }
 
 impl Row {
