@@ -22,6 +22,7 @@ mod relocation_checks;
 #[cfg(test)]
 mod relocation_tests;
 mod relocations;
+mod rising_fields;
 mod section_checks;
 mod signatures;
 mod symbol_checks;
@@ -38,7 +39,7 @@ pub use file_table::read_sections;
 pub use group_checks::groups_fault;
 pub use groups::{groups_of, word_under};
 pub use overlaps::overlap_fault;
-pub use pieces::key_of;
+pub use pieces::{key_of, may_be_piece};
 pub use relocation_checks::rela_faults;
 pub use relocations::{code_of, relas_under, symbol_of, width_of};
 pub use section_checks::{sections_fault, table_fault};
