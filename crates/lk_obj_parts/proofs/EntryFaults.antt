@@ -1,5 +1,5 @@
 -- The first fault of the entries of a section of relocations, one after another.
-use Rattle.std.specs.Prelude.{◌≡◌, refl, ℕ, suc, ◌+◌, ◌-◌, ◌<◌, ◌≤◌, true, false, List, flat_map, Option, Some, None, length}
+use Rattle.std.specs.Prelude.{◌≡◌, refl, ℕ, suc, ◌+◌, ◌-◌, ◌<◌, ◌≤◌, Bool, true, false, List, flat_map, Option, Some, None, length}
 use Rattle.std.specs.List.{enumerate_from}
 use Rattle.std.proofs.Common.{ap, ◌∙◌, sym, arith}
 use Rattle.lk_elf.specs.declared.relocation.Rela.{Rela}
@@ -76,6 +76,17 @@ no_piece elf n header e t =
     rest elf n header e
     ∙ ap (λ b. first_fault (entry_checks elf n header b (section_at elf header.sh_info))) t
     ∙ nothing elf n header (section_at elf header.sh_info)
+
+found-none : (elf : Elf) (n : ℕ) (header target : Shdr) (piece : Bool) → entry_faults elf.bytes header (length elf.symbols) n target 0 (entry_count elf.bytes header) ≡ None → first_fault (entry_checks elf n header piece (Some target)) ≡ None
+found-none elf n header target true h = entries elf n header target ∙ h
+found-none elf n header target false h = refl
+
+-- where no entry has a fault, none is told, whether or not the target is a piece
+pub no_entry_fault : (elf : Elf) (n : ℕ) (header target : Shdr) → first_fault (head_checks elf n header) ≡ None → section_at elf header.sh_info ≡ Some target → entry_faults elf.bytes header (length elf.symbols) n target 0 (entry_count elf.bytes header) ≡ None → first_fault (rela_section_checks elf (n, header)) ≡ None
+no_entry_fault elf n header target e s h =
+    rest elf n header e
+    ∙ ap (λ o. first_fault (entry_checks elf n header (is_piece_in elf header.sh_info) o)) s
+    ∙ found-none elf n header target (is_piece_in elf header.sh_info) h
 
 pub entries_fault_told : (elf : Elf) (n : ℕ) (header target : Shdr) → first_fault (head_checks elf n header) ≡ None → is_piece_in elf header.sh_info ≡ true → section_at elf header.sh_info ≡ Some target → first_fault (rela_section_checks elf (n, header)) ≡ entry_faults elf.bytes header (length elf.symbols) n target 0 (entry_count elf.bytes header)
 entries_fault_told elf n header target e t s =

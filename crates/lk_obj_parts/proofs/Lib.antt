@@ -22,3 +22,5 @@ pub mod GroupLists
 pub mod GroupsMarked
 pub mod GroupWords
 pub mod NamedGroups
+pub mod PieceTypes
+pub mod RisingFields

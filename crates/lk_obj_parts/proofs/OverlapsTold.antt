@@ -39,7 +39,7 @@ rows-sites elf (row ∷ rows) =
     ap (λ (s : List (ℕ × ℕ × Rela)). s ++ flat_map (λ (row : ℕ × Shdr). map (λ (entry : ℕ × Rela). (row.0, entry.0, entry.1)) (enumerate_from 0 (relas_under elf row.1))) rows) (row-sites elf row)
     ∙ ap (λ (s : List (ℕ × ℕ × Rela)). sites_of_row elf.bytes row ++ s) (rows-sites elf rows)
 
-where_piece : (elf : Elf) (t : ℕ) (b : Bool) → first_fault (overlap_checks_after [] (sites_of elf.bytes (cond b (rela_sections_of elf t) []))) ≡ first_fault (overlap_checks elf b t)
+pub where_piece : (elf : Elf) (t : ℕ) (b : Bool) → first_fault (overlap_checks_after [] (sites_of elf.bytes (cond b (rela_sections_of elf t) []))) ≡ first_fault (overlap_checks elf b t)
 unfolding overlap_checks_after
 where_piece elf t true = ap (λ sites. first_fault (overlap_checks_after [] sites)) (sym (rows-sites elf (rela_sections_of elf t)))
 where_piece elf t false = refl

@@ -10,3 +10,5 @@ pub mod GroupLists
 pub mod GroupMarks
 pub mod GroupParts
 pub mod SymbolTables
+pub mod PieceTypes
+pub mod RisingFields

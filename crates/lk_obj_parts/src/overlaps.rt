@@ -1,7 +1,8 @@
 //! That no two fields of relocations share a byte (gABI "Relocation"), seen with a mark for each byte of
 //! their target, and not by each field against each.
 //!
-//! The fields of a target are taken in turn, by section and entry. One that meets a mark shares a byte
+//! Fields that rise are seen to share none without any memory (rising_fields.rt); so are those of nearly all
+//! objects. Else the fields of a target are taken in turn, by section and entry. One that meets a mark shares a byte
 //! with an earlier field, and is told; else its own bytes are marked. At the end the same fields are taken
 //! again, and their bytes are cleared, so that one row of marks serves all targets: the cost is two times
 //! eight steps a relocation, and once the size of the longest target.
@@ -19,6 +20,7 @@ ghost use Rattle.lk_obj_parts.specs.RelocationParts.{rows_fault};
 ghost use Rattle.lk_obj_parts.specs.TargetRows.{TargetsFit, list_checks, room_with};
 
 use crate::relocations::{code_of, entry_at, entry_count, width_of};
+use crate::rising_fields::rows_rise;
 use crate::target_rows::{RowList, rows_by_target};
 use lk_elf::numbers::SHT_NOBITS;
 use lk_elf::{Ehdr, Shdr};
@@ -175,10 +177,10 @@ fn targets_fault(marks: &mut [bool], bytes: &[u8], lists: &[RowList]) -> Option<
     None
 }
 
-/// The first field of a piece that shares a byte with an earlier one, by target, section and entry, in a
-/// file whose sections of relocations have no fault of their own.
+/// The first field of a piece that shares a byte with an earlier one, by target, section and entry, seen with
+/// marks.
 #[tactic(auto, using(crate::proofs::OverlapsTold::lists_fit, crate::proofs::OverlapsTold::overlaps_told))]
-pub fn overlap_fault(
+fn marked_overlap(
     alloc: Global,
     bytes: &[u8],
     header: &Ehdr,
@@ -195,4 +197,23 @@ pub fn overlap_fault(
         return Err(NoMemory);
     };
     Ok(targets_fault(&mut marks, bytes, &lists))
+}
+
+/// The first field of a piece that shares a byte with an earlier one, by target, section and entry, in a
+/// file whose sections of relocations have no fault of their own.
+pub fn overlap_fault(
+    alloc: Global,
+    bytes: &[u8],
+    header: &Ehdr,
+    sections: &[Shdr],
+) -> Result<Option<InputFault>, NoMemory>
+    requires few_entries { length bytes.now ≤ 24 * 2 ^ 32 }
+    requires few_sections { length sections.now < 2 ^ 32 }
+    requires fit { TargetsFit (elf_from bytes.now header.now sections.now []) }
+    ensures { (symbols : List Sym) → IfOk result (λ r. r ≡ (let elf = elf_from bytes.now header.now sections.now symbols in first_fault (flat_map (λ (row : ℕ × Shdr). overlap_checks elf (is_piece_in elf row.0) row.0) (numbered sections.now)))) }
+{
+    if rows_rise(bytes, sections) {
+        return Ok(None);
+    }
+    marked_overlap(alloc, bytes, header, sections)
 }

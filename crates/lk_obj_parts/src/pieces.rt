@@ -6,6 +6,7 @@ ghost use Rattle.std.specs.Option.{option_copied};
 ghost use Rattle.lk_model.specs.Amounts.{has_flag};
 ghost use Rattle.lk_model.specs.Pieces.{class_of, common_name, goes_under, is_piece, is_reading_type, is_table_name, is_tail_name, key_of, output_name};
 ghost use Rattle.lk_obj_parts.specs.CommonNames.{array_names, first_names, older_names};
+ghost use Rattle.lk_obj_parts.specs.PieceTypes.{may_be_piece};
 
 use crate::texts::rest_from;
 use lk_elf::numbers::{
@@ -160,6 +161,18 @@ fn is_reading_type(code: u32) -> bool
         || code == SHT_STRTAB
         || code == SHT_RELA
         || code == SHT_GROUP
+}
+
+/// Whether a section can be a piece at all, by its type and flags (gABI "Sections", sh_type and sh_flags):
+/// where it can not, no name makes it one, so that none has to be read. By the law `no_key` of
+/// proofs/PieceTypes it has no output section then.
+pub fn may_be_piece(code: u32, flags: u64) -> bool
+    ensures { result ≡ may_be_piece code flags }
+{
+    if is_reading_type(code) {
+        return false;
+    }
+    has_flag(flags, SHF_ALLOC) || code == SHT_PROGBITS
 }
 
 /// Whether an input section may be linked.

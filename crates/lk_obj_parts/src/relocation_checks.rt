@@ -1,6 +1,6 @@
 //! The checks of the sections of relocations and of their entries (gABI "Relocation"), in their order: the
 //! first that fails is told, with the numbers of its section and entry. Entries are read one by one, and
-//! no memory is taken.
+//! no memory is taken. Whether a target is a piece, which its name decides, is asked of a faulty entry alone.
 
 ghost use Rattle.std.specs.Prelude.{◌≡◌, ◌==◌, ◌+◌, ◌*◌, ◌^◌, ◌<◌, ◌≤◌, List, [], None, drop, flat_map, length};
 ghost use Rattle.lk_elf.specs.declared.symbol.Sym.{Sym};
@@ -12,7 +12,7 @@ ghost use Rattle.lk_obj_parts.specs.RelocationEntries.{entry_count};
 ghost use Rattle.lk_obj_parts.specs.RelocationParts.{entry_checks_among, entry_faults, head_checks, rela_row_checks, table_number};
 ghost use Rattle.lk_obj_parts.specs.TargetRows.{TargetsFit};
 
-use crate::pieces::is_piece;
+use crate::pieces::{is_piece, may_be_piece};
 use crate::relocations::{code_of, entry_at, entry_count, symbol_of, width_of};
 use crate::texts::{header_at, section_name};
 use lk_elf::numbers::{RELA_SIZE, SHT_NOBITS, SHT_RELA, SHT_SYMTAB};
@@ -20,13 +20,16 @@ use lk_elf::{Ehdr, Rela, Shdr, Sym};
 use lk_report::InputFault;
 
 /// Whether a section, by its number, is a piece.
-#[tactic(auto, using(crate::proofs::RelocationTargets::piece_told))]
+#[tactic(auto, using(crate::proofs::RelocationTargets::piece_told, crate::proofs::PieceTypes::none_named))]
 pub(crate) fn is_piece_in(bytes: &[u8], header: &Ehdr, sections: &[Shdr], n: u32) -> bool
     ensures { (symbols : List Sym) → result ≡ is_piece_in (elf_from bytes.now header.now sections.now symbols) n }
 {
     let Some(found) = header_at(sections, n) else {
         return false;
     };
+    if !may_be_piece(found.sh_type, found.sh_flags) {
+        return false;
+    }
     match section_name(bytes, header, sections, n) {
         None => false,
         Some(name) => is_piece(name, found.sh_type, found.sh_flags),
@@ -134,7 +137,7 @@ fn head_fault(
 }
 
 /// The first fault of a section of relocations, where the symbol table has this number.
-#[tactic(auto, using(crate::proofs::Headers::section_told, crate::proofs::EntryFaults::head_told, crate::proofs::EntryFaults::no_target, crate::proofs::EntryFaults::no_piece, crate::proofs::EntryFaults::entries_fault_told))]
+#[tactic(auto, using(crate::proofs::Headers::section_told, crate::proofs::EntryFaults::head_told, crate::proofs::EntryFaults::no_target, crate::proofs::EntryFaults::no_piece))]
 fn rela_section_fault(
     bytes: &[u8],
     header: &Ehdr,
@@ -154,10 +157,13 @@ fn rela_section_fault(
     let Some(target) = header_at(sections, section.sh_info) else {
         return None;
     };
+    let Some(fault) = entries_fault(bytes, symbols.len(), n, section, target) else {
+        return None;
+    };
     if !is_piece_in(bytes, header, sections, section.sh_info) {
         return None;
     }
-    entries_fault(bytes, symbols.len(), n, section, target)
+    Some(fault)
 }
 
 /// The first fault of a section, where it holds relocations.

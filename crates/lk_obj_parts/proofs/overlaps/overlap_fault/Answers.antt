@@ -1,38 +1,6 @@
-use Rattle.std.specs.Prelude.{ℕ, ◌≤◌, List, [], slice_index_or}
-use Rattle.std.proofs.Common.{sym, ◌∙◌, ap, subst}
-use Rattle.lk_elf.specs.declared.section_header.Shdr.{Shdr}
-use Rattle.lk_obj_parts.specs.FieldMarks.{RowsFit}
-use Rattle.lk_obj_parts.specs.TargetRows.{room_with}
-use Rattle.lk_obj_parts.proofs.OverlapsTold.{lists_fit, overlaps_told}
+use Rattle.std.proofs.Common.{sym}
+use Rattle.lk_obj_parts.proofs.RisingFields.{rising_told}
 use Rattle.lk_obj_parts.proofs.overlaps.overlap_fault.Goals as goal
 
-pub targets_fault-requires-clause-fit : goal.targets_fault-requires-clause-fit
-targets_fault-requires-clause-fit c t a l =
-    subst
-    (λ n. RowsFit n c.args.bytes.now (slice_index_or c.deref-2.result.now t []))
-    (sym (c.deref_mut.ensures.len ∙ c.in-Ok.ensures.len))
-    (lists_fit
-    c.args.bytes.now
-    c.args.header.now
-    c.args.sections.now
-    c.deref-2.result.now
-    c.longest_target-size.result
-    c.requires.fit
-    (c.deref-2.ensures.len ∙ c.in_ok-lists.ensures.count)
-    (λ u k. ap (λ (lists : List (List (ℕ × Shdr))). slice_index_or lists u []) c.deref-2.ensures.value ∙ c.in_ok-lists.ensures.rows u k)
-    (λ u d k. subst (λ (lists : List (List (ℕ × Shdr))). room_with (slice_index_or c.args.sections.now u d) (slice_index_or lists u []) ≤ c.longest_target-size.result) (c.deref.ensures.value ∙ sym c.deref-2.ensures.value) (c.longest_target-size.ensures u d k))
-    t
-    a
-    l)
-
-pub returns : goal.returns
-returns c symbols =
-    c.targets_fault.ensures
-    ∙ overlaps_told
-    c.args.bytes.now
-    c.args.header.now
-    c.args.sections.now
-    symbols
-    c.deref-2.result.now
-    (c.deref-2.ensures.len ∙ c.in_ok-lists.ensures.count)
-    (λ u k. ap (λ (lists : List (List (ℕ × Shdr))). slice_index_or lists u []) c.deref-2.ensures.value ∙ c.in_ok-lists.ensures.rows u k)
+pub returns-then-rows_rise : goal.returns-then-rows_rise
+returns-then-rows_rise c symbols = sym (rising_told c.args.bytes.now c.args.header.now c.args.sections.now symbols (sym c.if-rows_rise.ensures))

@@ -1,0 +1,73 @@
+//! Whether the fields of relocations rise (gABI "Relocation"), as assemblers and compilers write them: each
+//! section of relocations is on a later section than the one before it, and each of its fields begins where
+//! the one before it ends, or later. By the law `rising_told` of proofs/RisingFields no two fields of a target
+//! share a byte then. Cost: one look at each section header and at each entry, and no memory.
+
+ghost use Rattle.std.specs.Prelude.{◌≡◌, ◌+◌, drop, nat_le};
+ghost use Rattle.lk_obj_parts.specs.RisingFields.{fields_rise, least_after, rows_rise};
+
+use crate::relocations::{code_of, entry_at, entry_count, width_of};
+use lk_elf::Shdr;
+use lk_elf::numbers::SHT_RELA;
+
+/// Whether a field at `at` begins where an earlier one of this width ends, or later.
+fn is_behind(earlier: u64, width: u64, at: u64) -> bool
+    ensures { result ≡ nat_le (earlier + width) at }
+{
+    if at < earlier {
+        return false;
+    }
+    width <= at - earlier
+}
+
+/// Whether the fields of a section of relocations rise.
+#[tactic(auto, using(crate::proofs::RisingFields::entry_rises, crate::proofs::RisingFields::entry_falls, crate::proofs::RisingFields::no_entry_left))]
+fn fields_rise(bytes: &[u8], section: &Shdr) -> bool
+    ensures { result ≡ fields_rise bytes.now section.now }
+{
+    let entries = entry_count(bytes, section);
+    let mut earlier = 0;
+    let mut width = 0;
+    for k in 0..entries {
+        let rela = entry_at(bytes, section, k);
+        if !is_behind(earlier, width, rela.r_offset) {
+            return false;
+        }
+        earlier = rela.r_offset;
+        width = width_of(code_of(&rela));
+    }
+    true
+}
+
+/// The least number of the next target after a section, where its own is to be at least `least`; none where
+/// it holds relocations that do not rise.
+fn least_after(bytes: &[u8], least: u64, section: &Shdr) -> Option<u64>
+    ensures { result ≡ least_after bytes.now least section.now }
+{
+    if section.sh_type != SHT_RELA {
+        return Some(least);
+    }
+    let target = u64::from(section.sh_info);
+    if target < least {
+        return None;
+    }
+    if !fields_rise(bytes, section) {
+        return None;
+    }
+    Some(target + 1)
+}
+
+/// Whether the targets of the sections of relocations rise, and the fields of each.
+#[tactic(auto, using(crate::proofs::RisingFields::row_rises, crate::proofs::RisingFields::row_falls, crate::proofs::RisingFields::no_row_left))]
+pub(crate) fn rows_rise(bytes: &[u8], sections: &[Shdr]) -> bool
+    ensures { result ≡ rows_rise bytes.now 0 (drop 1 sections.now) }
+{
+    let mut least = 0;
+    for i in 1..sections.len() {
+        match least_after(bytes, least, &sections[i]) {
+            None => return false,
+            Some(next) => least = next,
+        }
+    }
+    true
+}
