@@ -5,7 +5,6 @@ use Rattle.std.proofs.lemmas.List.FromFn.{get_or-map-range_with_len, length-map-
 use Rattle.std.proofs.lemmas.Option.{slice_get-get_or, slice_get_past}
 use Rattle.lk_elf.specs.Numbers.{sht_symtab, sym_size}
 use Rattle.lk_elf.specs.Records.{sym_at}
-use Rattle.lk_elf.specs.declared.file_header.Ehdr.{Ehdr}
 use Rattle.lk_elf.specs.declared.section_header.Shdr.{Shdr}
 use Rattle.lk_elf.specs.declared.symbol.Sym.{Sym}
 use Rattle.lk_model.specs.Elf.{elf_of, elf_under, elf_with, first_of_type, symbols_of}
@@ -62,12 +61,11 @@ symbols_told : (bytes : List ℕ) → (elf_of bytes).symbols ≡ symbols_of byte
 unfolding elf_of elf_under elf_with
 symbols_told bytes = refl
 
-pub symbols_stand : (bytes : List ℕ) (h : Ehdr) (s t : List Shdr) (ys : List Sym) (place : SymbolPlace) → elf_of bytes ≡ elf_from bytes h s ys → t ≡ s → StandAt bytes (symbols_of bytes (first_of_type sht_symtab t)) place → StandAt bytes (elf_of bytes).symbols place
-symbols_stand bytes h s t ys place e same p = record {
+pub symbols_stand : (bytes : List ℕ) (sections : List Shdr) (place : SymbolPlace) → sections ≡ (elf_of bytes).sections → StandAt bytes (symbols_of bytes (first_of_type sht_symtab sections)) place → StandAt bytes (elf_of bytes).symbols place
+symbols_stand bytes sections place same p = record {
   within = p.within;
   each =
       symbols_told bytes
-      ∙ ap (λ (elf : Elf). symbols_of bytes (first_of_type sht_symtab elf.sections)) e
       ∙ ap (λ (hs : List Shdr). symbols_of bytes (first_of_type sht_symtab hs)) (sym same)
       ∙ p.each;
 }

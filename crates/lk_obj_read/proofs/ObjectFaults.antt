@@ -1,8 +1,8 @@
 -- The first fault of an object by the first faults of its parts.
-use Rattle.std.specs.Prelude.{◌≡◌, ◌<◌, refl, ℕ, Bool, true, false, not, ◌&&◌, List, [], ◌∷◌, ◌++◌, flat_map, length, nat_lt, Option, Some, None, Result, Ok, Err}
+use Rattle.std.specs.Prelude.{◌≡◌, ◌<◌, ◌==◌, refl, ℕ, Bool, true, false, not, ◌&&◌, if◌then◌else◌, List, [], ◌∷◌, ◌++◌, flat_map, length, nat_lt, Option, Some, None, Result, Ok, Err}
 use Rattle.std.proofs.Common.{ap, append_assoc, arith, subst, sym, ◌∙◌}
 use Rattle.std.proofs.lemmas.Bool.Decides.{nat_tests}
-use Rattle.lk_elf.specs.Numbers.{ehdr_size, sht_symtab}
+use Rattle.lk_elf.specs.Numbers.{ehdr_size, et_rel, sht_symtab}
 use Rattle.lk_elf.specs.Records.{ehdr_at}
 use Rattle.lk_elf.specs.declared.file_header.Ehdr.{Ehdr}
 use Rattle.lk_elf.specs.declared.section_header.Shdr.{Shdr}
@@ -16,6 +16,7 @@ use Rattle.lk_model.specs.ObjectChecks.{group_checks_after, object_checks, objec
 use Rattle.lk_model.specs.Objects.{group_sections, is_piece_in}
 use Rattle.lk_model.specs.Views.{Elf}
 use Rattle.lk_model.specs.declared.summaries.Kind.{Kind}
+use Rattle.lk_model.specs.declared.summaries.Kind.TheVariants.{Object, Shared}
 use Rattle.lk_obj_parts.specs.ElfViews.{elf_from}
 use Rattle.lk_obj_read.specs.ObjectParts.{reference_half, table_half}
 use Rattle.lk_obj_parts.proofs.SymbolsUnread.{elf_parts, sections_unread, table_unread}
@@ -184,6 +185,18 @@ no_header bytes k e short =
     let is_short : nat_lt (length bytes) ehdr_size ≡ true = grind (arith, nat_tests, short) in
     short_stops (is_archive bytes) (has_magic bytes) (is_text bytes) (header_checks (ehdr_at bytes 0))
     (ap (λ (b : Bool). first_fault ((is_archive bytes, Archive) ∷ (not (has_magic bytes) && is_text bytes, Script) ∷ (not (has_magic bytes), NotElf) ∷ (b, NotElf) ∷ header_checks (ehdr_at bytes 0))) (sym is_short) ∙ none)
+
+-- the first fault of a kind is one of the file
+kind_sound : (o : Option InputFault) (bytes : List ℕ) → object_fault_after o bytes ≡ None → o ≡ None
+kind_sound None bytes e = refl
+kind_sound (Some f) bytes e = cc
+
+-- a file without a fault has a header
+pub header_there : (bytes : List ℕ) → object_fault bytes ≡ None → length bytes < 64 → ⊥
+unfolding object_fault kind_of
+header_there bytes e short =
+    no_header bytes (if (ehdr_at bytes 0).e_type == et_rel then Object else Shared)
+    (ap (λ o. kind_with o (ehdr_at bytes 0)) (kind_sound (first_fault (kind_checks bytes)) bytes e)) short
 
 -- ---- the file
 

@@ -35,7 +35,7 @@ bytes_told elf (suc n) d e =
     (slice_get-get_or elf.sections (suc n) d (is_there elf (suc n) e))
     ∙ append-nil (held_bytes elf.bytes (get_or elf.sections (suc n) d))
 
-bytes_of : (bytes : List ℕ) → (elf_of bytes).bytes ≡ bytes
+pub bytes_of : (bytes : List ℕ) → (elf_of bytes).bytes ≡ bytes
 unfolding elf_of elf_under elf_with
 bytes_of bytes = refl
 
