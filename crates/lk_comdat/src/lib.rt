@@ -11,8 +11,6 @@
 mod claiming;
 mod group_table;
 mod laws;
-#[cfg(test)]
-mod tests;
 
 pub use claiming::Claim;
 pub use group_table::Groups;

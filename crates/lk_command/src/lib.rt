@@ -23,8 +23,6 @@ mod parsing;
 mod paths;
 mod phrases;
 mod reading;
-#[cfg(test)]
-mod tests;
 mod values;
 mod word_tables;
 

@@ -10,5 +10,4 @@ pub mod Joining
 pub mod Halving
 pub mod FreeAgain
 pub mod SameBytes
-pub mod Apart
 pub mod ModelLaws

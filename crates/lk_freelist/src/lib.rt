@@ -15,8 +15,6 @@ mod free_list;
 mod laws;
 mod placing;
 mod taking_back;
-#[cfg(test)]
-mod tests;
 
 pub use filling::fill;
 pub use free_list::FreeList;

@@ -15,8 +15,6 @@ mod input_sections;
 mod kinds;
 mod orders;
 mod ranks;
-#[cfg(test)]
-mod tests;
 
 pub use input_sections::key_for;
 pub use kinds::{fill_kind, is_patched};

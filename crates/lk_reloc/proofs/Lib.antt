@@ -2,5 +2,4 @@ pub mod Addends
 pub mod TypesFound
 pub mod RulesFound
 pub mod LowBytes
-pub mod ShortFields
 pub mod FieldsRead

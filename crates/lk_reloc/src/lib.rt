@@ -17,8 +17,6 @@ mod laws;
 mod ranges;
 mod relocation_types;
 mod rules;
-#[cfg(test)]
-mod tests;
 mod values;
 
 pub use fields::{Overflow, apply};

@@ -14,8 +14,6 @@ mod laws;
 mod rows;
 mod symbol_kinds;
 mod symbol_table;
-#[cfg(test)]
-mod tests;
 
 pub use laws::symbols_are_the_models;
 pub use symbol_kinds::{is_of_object, is_strong_definition};

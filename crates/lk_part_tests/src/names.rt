@@ -1,11 +1,10 @@
 //! Symbols of a few names: which definition wins, what is hidden, what the linker makes, and symbols for
 //! which memory was wanted once.
 
-use crate::symbol_table::SymTab;
 use lk_model::summaries::{Global as Symbol, Home, Kind, Winner};
 use lk_report::{Name, NoMemory};
+use lk_symtab::SymTab;
 use std::alloc::Global;
-use std::test::Fail;
 
 /// A symbol of the one name of a table.
 #[derive(Clone, Copy)]
@@ -134,70 +133,69 @@ fn winner_among(alloc: Global, all: &[Given], is_made: bool) -> Result<Option<Wi
 }
 
 #[test]
-fn a_common_stands_before_a_weak_definition(rt: HostRuntime) -> Result<(), Fail> {
+fn a_common_stands_before_a_weak_definition(rt: HostRuntime) {
     let all = [definition(0, 4, true), common(8, 4), common(4, 16)];
-    assert_eq!(rt;
-        winner_among(rt.alloc(), &all, false)?,
-        Some(Winner::Common { size: 8, align: 16 })
-    );
-    Ok(())
+    let merged = Winner::Common { size: 8, align: 16 };
+    assert_eq!(rt; winner_among(rt.alloc(), &all, false), Ok(Some(merged)));
 }
 
 #[test]
-fn the_first_of_two_strong_definitions_wins(rt: HostRuntime) -> Result<(), Fail> {
+fn the_first_of_two_strong_definitions_wins(rt: HostRuntime) {
     let all = [
         common(64, 64),
         definition(3, 7, false),
         definition(2, 1, false),
     ];
-    assert_eq!(rt;
-        winner_among(rt.alloc(), &all, true)?,
-        Some(Winner::Strong {
-            input: 3,
-            symbol: 7
-        })
-    );
-    Ok(())
+    let first = Winner::Strong {
+        input: 3,
+        symbol: 7,
+    };
+    assert_eq!(rt; winner_among(rt.alloc(), &all, true), Ok(Some(first)));
 }
 
 #[test]
-fn a_hidden_name_is_not_imported(rt: HostRuntime) -> Result<(), Fail> {
+fn a_shown_name_is_imported(rt: HostRuntime) {
+    let shown = [REFERENCE, export(1, 9), export(2, 3)];
+    let first = Winner::Import {
+        input: 1,
+        symbol: 9,
+    };
+    assert_eq!(rt; winner_among(rt.alloc(), &shown, false), Ok(Some(first)));
+}
+
+#[test]
+fn a_hidden_name_is_not_imported(rt: HostRuntime) {
     let hidden = Given {
         visibility: 2,
         ..REFERENCE
     };
-    let shown = [REFERENCE, export(1, 9), export(2, 3)];
     assert_eq!(rt;
-        winner_among(rt.alloc(), &shown, false)?,
-        Some(Winner::Import {
-            input: 1,
-            symbol: 9
-        })
+        winner_among(rt.alloc(), &[export(1, 9), hidden], false),
+        Ok(Some(Winner::Nothing))
     );
-    assert_eq!(rt;
-        winner_among(rt.alloc(), &[export(1, 9), hidden], false)?,
-        Some(Winner::Nothing)
-    );
-    Ok(())
 }
 
 #[test]
-fn the_linker_makes_what_no_object_defines(rt: HostRuntime) -> Result<(), Fail> {
+fn the_linker_makes_what_no_object_defines(rt: HostRuntime) {
     assert_eq!(rt;
-        winner_among(rt.alloc(), &[REFERENCE, export(1, 9)], true)?,
-        Some(Winner::Made)
+        winner_among(rt.alloc(), &[REFERENCE, export(1, 9)], true),
+        Ok(Some(Winner::Made))
     );
-    assert_eq!(rt;
-        winner_among(rt.alloc(), &[definition(0, 4, true)], true)?,
-        Some(Winner::Weak {
-            input: 0,
-            symbol: 4
-        })
-    );
-    Ok(())
 }
 
-/// Adds a symbol for each of 200 names.
+#[test]
+fn the_linker_does_not_make_what_an_object_defines(rt: HostRuntime) {
+    let weak = Winner::Weak {
+        input: 0,
+        symbol: 4,
+    };
+    assert_eq!(rt;
+        winner_among(rt.alloc(), &[definition(0, 4, true)], true),
+        Ok(Some(weak))
+    );
+}
+
+/// Adds a symbol for each of 200 names; whether each had the number of its name.
 fn add_each(alloc: Global, names: &mut SymTab, given: &Given) -> Result<bool, NoMemory> {
     for k in 0..200u32 {
         let name = Name::from_slice(alloc, &k.to_le_bytes())?;
@@ -208,14 +206,18 @@ fn add_each(alloc: Global, names: &mut SymTab, given: &Given) -> Result<bool, No
     Ok(true)
 }
 
+/// The number of a name, where it is in the table.
+fn number(alloc: Global, names: &SymTab, name: &[u8]) -> Result<Option<u32>, NoMemory> {
+    let name = Name::from_slice(alloc, name)?;
+    Ok(names.find(&name))
+}
+
 #[test]
-fn names_are_numbered_by_their_first_symbols(rt: HostRuntime) -> Result<(), Fail> {
-    let alloc = rt.alloc();
-    let mut names = SymTab::new(alloc);
-    assert!(rt; add_each(alloc, &mut names, &REFERENCE)?);
-    assert!(rt; add_each(alloc, &mut names, &export(1, 2))?);
+fn names_are_numbered_by_their_first_symbols(rt: HostRuntime) {
+    let mut names = SymTab::new(rt.alloc());
+    assert_eq!(rt; add_each(rt.alloc(), &mut names, &REFERENCE), Ok(true));
+    assert_eq!(rt; add_each(rt.alloc(), &mut names, &export(1, 2)), Ok(true));
     assert_eq!(rt; names.len(), 200);
     assert_eq!(rt; names.at(199).list.as_slice().len(), 2);
-    assert_eq!(rt; names.find(&Name::from_slice(alloc, b"none")?), None);
-    Ok(())
+    assert_eq!(rt; number(rt.alloc(), &names, b"none"), Ok(None));
 }

@@ -1,11 +1,7 @@
 //! Values and fields: worked examples, and values at the edge of what a field takes.
 
-ghost use Rattle.std.specs.Prelude.{◌≡◌};
-
-use crate::fields::{Overflow, apply};
-use crate::values::value;
 use lk_model::layouts::Numbers;
-use std::test::Fail;
+use lk_reloc::{Overflow, apply, value};
 
 const NONE: u32 = 0;
 
@@ -73,7 +69,7 @@ fn left(code: u32, value: u64) -> ([u8; 10], Result<(), Overflow>) {
 }
 
 #[test]
-fn an_address_of_four_bytes_is_extended_by_zeros(rt: HostRuntime) -> Result<(), Fail> {
+fn an_address_of_four_bytes_is_extended_by_zeros(rt: HostRuntime) {
     assert_eq!(rt;
         field(WORD32, 0xffff_ffff),
         Ok([0xcc, 0xff, 0xff, 0xff, 0xff, 0xcc, 0xcc, 0xcc, 0xcc, 0xcc])
@@ -84,11 +80,10 @@ fn an_address_of_four_bytes_is_extended_by_zeros(rt: HostRuntime) -> Result<(), 
             value: 0x1_0000_0000
         })
     );
-    Ok(())
 }
 
 #[test]
-fn a_signed_address_is_extended_by_its_sign(rt: HostRuntime) -> Result<(), Fail> {
+fn a_signed_address_is_extended_by_its_sign(rt: HostRuntime) {
     assert_eq!(rt;
         field(SIGNED32, 0xffff_ffff_8000_0000),
         Ok([0xcc, 0, 0, 0, 0x80, 0xcc, 0xcc, 0xcc, 0xcc, 0xcc])
@@ -100,11 +95,10 @@ fn a_signed_address_is_extended_by_its_sign(rt: HostRuntime) -> Result<(), Fail>
     );
     assert!(rt; field(SIGNED32, 0x7fff_ffff).is_ok());
     assert!(rt; field(SIGNED32, 0xffff_ffff_7fff_ffff).is_err());
-    Ok(())
 }
 
 #[test]
-fn a_thread_offset_counts_back_from_the_end_of_the_block(rt: HostRuntime) -> Result<(), Fail> {
+fn a_thread_offset_counts_back_from_the_end_of_the_block(rt: HostRuntime) {
     let offset = value(TPOFF32, &numbers(0x40_5008, 0, 0));
     assert_eq!(rt; offset, 0xffff_ffff_ffff_ff88);
     assert_eq!(rt;
@@ -112,11 +106,10 @@ fn a_thread_offset_counts_back_from_the_end_of_the_block(rt: HostRuntime) -> Res
         Ok([0xcc, 0x88, 0xff, 0xff, 0xff, 0xcc, 0xcc, 0xcc, 0xcc, 0xcc])
     );
     assert_eq!(rt; value(DTPOFF64, &numbers(0x40_5008, 1, 0)), 9);
-    Ok(())
 }
 
 #[test]
-fn distances_count_from_the_place(rt: HostRuntime) -> Result<(), Fail> {
+fn distances_count_from_the_place(rt: HostRuntime) {
     let near = numbers(0x40_1010, -4, 0x40_1005);
     assert_eq!(rt; value(PC32, &near), 7);
     assert_eq!(rt; value(PLT32, &near), 0x17);
@@ -128,22 +121,24 @@ fn distances_count_from_the_place(rt: HostRuntime) -> Result<(), Fail> {
         field(PC64, value(PC64, &back)),
         Ok([0xcc, 0xf8, 0xff, 0xff, 0xff, 0xff, 0xff, 0xff, 0xff, 0xcc])
     );
-    Ok(())
 }
 
 #[test]
-fn values_without_a_place(rt: HostRuntime) -> Result<(), Fail> {
+fn values_without_a_place(rt: HostRuntime) {
     let n = numbers(0x40_1010, 4, 0x40_1000);
     assert_eq!(rt; value(WORD64, &n), 0x40_1014);
     assert_eq!(rt; value(SIZE32, &n), 0x24);
     assert_eq!(rt; value(GOTOFF64, &n), 0xffff_ffff_ffff_d014);
     assert_eq!(rt; value(NONE, &n), 0);
-    Ok(())
+}
+
+/// Ten bytes with a field of two, or of one and the byte behind it.
+fn two(low: u8, high: u8) -> Result<[u8; 10], Overflow> {
+    Ok([0xcc, low, high, 0xcc, 0xcc, 0xcc, 0xcc, 0xcc, 0xcc, 0xcc])
 }
 
 #[test]
-fn short_fields_take_a_sign_or_zeros(rt: HostRuntime) -> Result<(), Fail> {
-    let two = |low, high| Ok([0xcc, low, high, 0xcc, 0xcc, 0xcc, 0xcc, 0xcc, 0xcc, 0xcc]);
+fn short_fields_take_a_sign_or_zeros(rt: HostRuntime) {
     assert_eq!(rt; field(WORD16, 0xffff), two(0xff, 0xff));
     assert_eq!(rt; field(WORD16, 0xffff_ffff_ffff_8000), two(0, 0x80));
     assert!(rt; field(WORD16, 0x1_0000).is_err());
@@ -155,11 +150,9 @@ fn short_fields_take_a_sign_or_zeros(rt: HostRuntime) -> Result<(), Fail> {
     assert!(rt; field(WORD8, 0x100).is_err());
     assert_eq!(rt; field(PC8, 0x7f), two(0x7f, 0xcc));
     assert!(rt; field(PC8, 0x80).is_err());
-    Ok(())
 }
 
 #[test]
-fn nothing_is_written_for_type_none(rt: HostRuntime) -> Result<(), Fail> {
+fn nothing_is_written_for_type_none(rt: HostRuntime) {
     assert_eq!(rt; field(NONE, 0), Ok([0xcc; 10]));
-    Ok(())
 }

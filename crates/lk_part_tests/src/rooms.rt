@@ -7,12 +7,10 @@ ghost use Rattle.lk_model.specs.declared.layouts.Hole.{Hole};
 ghost use Rattle.lk_freelist.specs.Filling.{least_for};
 ghost use Rattle.lk_freelist.specs.FreeBytes.{end_of};
 
-use crate::filling::fill;
-use crate::free_list::FreeList;
+use lk_freelist::{FreeList, fill};
 use lk_model::layouts::{FillKind, Hole, HoleList};
 use lk_report::NoMemory;
 use std::process::Abort;
-use std::test::Fail;
 
 /// Each part of a hole's bytes is what is written of it alone.
 fn each_part_is_written(rt: &impl Abort, kind: FillKind, hole: &[u8])
@@ -65,7 +63,7 @@ fn hole(start: u64, length: u64) -> Hole
 }
 
 #[test]
-fn a_place_that_leaves_too_little_is_passed_over(rt: HostRuntime) -> Result<(), Fail> {
+fn a_place_that_leaves_too_little_is_passed_over(rt: HostRuntime) -> Result<(), NoMemory> {
     let mut rows = HoleList::new(rt.alloc());
     rows.push(hole(0x100, 0x20))?;
     rows.push(hole(0x200, 0x40))?;
@@ -109,7 +107,7 @@ fn give_back(rt: &impl Abort, list: &mut FreeList, start: u64, size: u64)
 }
 
 #[test]
-fn pieces_fill_a_room(rt: HostRuntime) -> Result<(), Fail> {
+fn pieces_fill_a_room(rt: HostRuntime) -> Result<(), NoMemory> {
     let mut list = FreeList::new(rt.alloc(), 1, 0x40)?;
     list.reserve(4)?;
     assert_eq!(rt; list.place(3, 1), Some(0));
@@ -122,7 +120,7 @@ fn pieces_fill_a_room(rt: HostRuntime) -> Result<(), Fail> {
 }
 
 #[test]
-fn bytes_are_given_back(rt: HostRuntime) -> Result<(), Fail> {
+fn bytes_are_given_back(rt: HostRuntime) -> Result<(), NoMemory> {
     let mut list = FreeList::new(rt.alloc(), 1, 0x40)?;
     list.reserve(8)?;
     assert_eq!(rt; list.place(0x15, 1), Some(0));
@@ -141,7 +139,7 @@ fn bytes_are_given_back(rt: HostRuntime) -> Result<(), Fail> {
 }
 
 #[test]
-fn the_second_place_ends_with_the_hole(rt: HostRuntime) -> Result<(), Fail> {
+fn the_second_place_ends_with_the_hole(rt: HostRuntime) -> Result<(), NoMemory> {
     let mut rows = HoleList::new(rt.alloc());
     rows.push(hole(0x104, 0x1c))?;
     let mut list = FreeList::of_holes(rt.alloc(), 16, &rows)?;
@@ -154,7 +152,7 @@ fn the_second_place_ends_with_the_hole(rt: HostRuntime) -> Result<(), Fail> {
 }
 
 #[test]
-fn the_address_is_aligned(rt: HostRuntime) -> Result<(), Fail> {
+fn the_address_is_aligned(rt: HostRuntime) -> Result<(), NoMemory> {
     let mut rows = HoleList::new(rt.alloc());
     rows.push(hole(0x108, 0x40))?;
     let mut list = FreeList::of_holes(rt.alloc(), 16, &rows)?;
@@ -168,7 +166,7 @@ fn the_address_is_aligned(rt: HostRuntime) -> Result<(), Fail> {
 }
 
 #[test]
-fn places_near_the_last_number(rt: HostRuntime) -> Result<(), Fail> {
+fn places_near_the_last_number(rt: HostRuntime) -> Result<(), NoMemory> {
     let mut list = FreeList::new(rt.alloc(), 1, u64::MAX)?;
     list.reserve(6)?;
     assert_eq!(rt; list.place(u64::MAX, u64::MAX), Some(0));
@@ -210,7 +208,9 @@ fn place_many(rt: &impl Abort, list: &mut FreeList, count: u64, from: u64) -> Re
 }
 
 #[test]
-fn the_last_of_ten_thousand_holes_takes_ten_thousand_pieces(rt: HostRuntime) -> Result<(), Fail> {
+fn the_last_of_ten_thousand_holes_takes_ten_thousand_pieces(
+    rt: HostRuntime,
+) -> Result<(), NoMemory> {
     let mut list = FreeList::new(rt.alloc(), 1, 320_000)?;
     list.reserve(1)?;
     assert_eq!(rt; list.place(320_000, 1), Some(0));

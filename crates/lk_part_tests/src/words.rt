@@ -1,12 +1,10 @@
 //! Words and the commands that they are: every word once, repeated words, marks and lib groups, each fault
 //! and the order of two, zero bytes, and sixteen million bytes of words.
 
-use crate::command_faults::CommandFault;
-use crate::parsing::parse_words;
-use lk_model::commands::{Command, Item, Mark, Mode};
-use lk_report::{List, Name, NameList, UsageFault};
+use lk_command::{CommandFault, parse_words};
+use lk_model::commands::{Command, Item, Mark, Mode, Word};
+use lk_report::{List, Name, NameList, NoMemory, UsageFault};
 use std::alloc::Global;
-use std::test::Fail;
 
 /// The answer to a list of words, of which a test has fewer than two million.
 fn parse_list(alloc: Global, words: &NameList) -> Result<Command, CommandFault> {
@@ -16,13 +14,21 @@ fn parse_list(alloc: Global, words: &NameList) -> Result<Command, CommandFault> 
     parse_words(alloc, words)
 }
 
-/// The answer to these words.
-fn parse(alloc: Global, texts: &[&[u8]]) -> Result<Command, CommandFault> {
+/// Words of these texts.
+fn words_of(alloc: Global, texts: &[&[u8]]) -> Result<NameList, NoMemory> {
     let mut words = List::new(alloc);
     for text in texts {
         words.push(Name::from_slice(alloc, text)?)?;
     }
-    parse_list(alloc, &words)
+    Ok(words)
+}
+
+/// The answer to these words.
+fn parse(alloc: Global, texts: &[&[u8]]) -> Result<Command, CommandFault> {
+    match words_of(alloc, texts) {
+        Ok(words) => parse_list(alloc, &words),
+        Err(_) => Err(CommandFault::NoMemory),
+    }
 }
 
 /// The fault of these words.
@@ -34,17 +40,11 @@ fn fault_of(alloc: Global, texts: &[&[u8]]) -> Option<UsageFault> {
 }
 
 #[test]
-fn one_input_has_the_defaults(rt: HostRuntime) -> Result<(), Fail> {
+fn one_input_has_the_defaults(rt: HostRuntime) -> Result<(), CommandFault> {
     let command = parse(rt.alloc(), &[b"a.o"])?;
     assert_eq!(rt; command.output.as_slice(), b"a.out".as_slice());
     assert_eq!(rt; command.mode, Mode::Full);
     assert!(rt; command.base.is_none());
-    assert_eq!(rt; command.options.entry.as_slice(), b"_start".as_slice());
-    assert!(rt; command.options.interp.as_slice().is_empty());
-    assert!(rt; command.options.runpath.as_slice().is_empty());
-    assert_eq!(rt; command.options.patch, 10);
-    assert!(rt; !command.options.export_dynamic);
-    assert!(rt; !command.options.dynamic);
     assert!(rt; command.dirs.as_slice().is_empty());
     assert_eq!(rt; command.items.as_slice().len(), 1);
     assert_eq!(rt; command.workers, 4);
@@ -52,51 +52,100 @@ fn one_input_has_the_defaults(rt: HostRuntime) -> Result<(), Fail> {
 }
 
 #[test]
-fn each_word_has_its_effect(rt: HostRuntime) -> Result<(), Fail> {
-    let words: [&[u8]; 24] = [
-        b"-o",
-        b"-o",
-        b"--entry=main",
-        b"-L",
-        b"one",
-        b"-Ltwo",
-        b"-dynamic-linker",
-        b"/lib/loader",
-        b"-rpath",
-        b"/r",
-        b"-rpath=/s",
-        b"--export-dynamic",
-        b"-m",
-        b"elf_x86_64",
-        b"--incremental",
-        b"--incremental-base=old",
-        b"--incremental-patch=0500",
-        b"--thread-count",
-        b"16",
-        b"a.o",
-        b"-l",
-        b"m",
-        b"-lc",
-        b"--incremental-unknown",
-    ];
-    let command = parse(rt.alloc(), &words)?;
+fn one_input_has_the_default_options(rt: HostRuntime) -> Result<(), CommandFault> {
+    let options = parse(rt.alloc(), &[b"a.o"])?.options;
+    assert_eq!(rt; options.entry.as_slice(), b"_start".as_slice());
+    assert!(rt; options.interp.as_slice().is_empty());
+    assert!(rt; options.runpath.as_slice().is_empty());
+    assert_eq!(rt; options.patch, 10);
+    assert!(rt; !options.export_dynamic);
+    assert!(rt; !options.dynamic);
+    Ok(())
+}
+
+/// Each word once.
+const EACH: [&[u8]; 24] = [
+    b"-o",
+    b"-o",
+    b"--entry=main",
+    b"-L",
+    b"one",
+    b"-Ltwo",
+    b"-dynamic-linker",
+    b"/lib/loader",
+    b"-rpath",
+    b"/r",
+    b"-rpath=/s",
+    b"--export-dynamic",
+    b"-m",
+    b"elf_x86_64",
+    b"--incremental",
+    b"--incremental-base=old",
+    b"--incremental-patch=0500",
+    b"--thread-count",
+    b"16",
+    b"a.o",
+    b"-l",
+    b"m",
+    b"-lc",
+    b"--incremental-unknown",
+];
+
+/// Whether the base is this one.
+fn is_base(command: &Command, text: &[u8]) -> bool {
+    match &command.base {
+        Some(base) => base.as_slice() == text,
+        None => false,
+    }
+}
+
+#[test]
+fn each_word_has_its_effect(rt: HostRuntime) -> Result<(), CommandFault> {
+    let command = parse(rt.alloc(), &EACH)?;
     assert_eq!(rt; command.output.as_slice(), b"-o".as_slice());
     assert_eq!(rt; command.mode, Mode::Either);
-    let base = command.base.ok_or("no base")?;
-    assert_eq!(rt; base.as_slice(), b"old".as_slice());
-    assert_eq!(rt; command.options.entry.as_slice(), b"main".as_slice());
-    assert_eq!(rt;
-        command.options.interp.as_slice(),
-        b"/lib/loader".as_slice()
-    );
-    assert_eq!(rt; command.options.runpath.as_slice(), b"/r:/s".as_slice());
-    assert_eq!(rt; command.options.patch, 500);
-    assert!(rt; command.options.export_dynamic);
+    assert!(rt; is_base(&command, b"old"));
     assert_eq!(rt; command.workers, 16);
+    Ok(())
+}
+
+#[test]
+fn each_option_is_recorded(rt: HostRuntime) -> Result<(), CommandFault> {
+    let options = parse(rt.alloc(), &EACH)?.options;
+    assert_eq!(rt; options.entry.as_slice(), b"main".as_slice());
+    assert_eq!(rt; options.interp.as_slice(), b"/lib/loader".as_slice());
+    assert_eq!(rt; options.runpath.as_slice(), b"/r:/s".as_slice());
+    assert_eq!(rt; options.patch, 500);
+    assert!(rt; options.export_dynamic);
+    Ok(())
+}
+
+#[test]
+fn folders_are_searched_in_order(rt: HostRuntime) -> Result<(), CommandFault> {
+    let command = parse(rt.alloc(), &EACH)?;
     let dirs = command.dirs.as_slice();
     assert_eq!(rt; dirs.len(), 2);
     assert_eq!(rt; dirs[0].as_slice(), b"one".as_slice());
     assert_eq!(rt; dirs[1].as_slice(), b"two".as_slice());
+    Ok(())
+}
+
+/// Whether a word has this text and mark, and names a library or not.
+fn is_same(word: &Word, text: &[u8], library: bool, mark: Mark) -> bool {
+    word.text.as_slice() == text && word.library == library && word.mark == mark
+}
+
+/// Whether an item is this word, outside a lib group.
+fn is_word(item: &Item, text: &[u8], library: bool, mark: Mark) -> bool {
+    match item {
+        Item::One(word) => is_same(word, text, library, mark),
+        Item::Lib(_) => false,
+    }
+}
+
+#[test]
+fn inputs_stand_in_order(rt: HostRuntime) -> Result<(), CommandFault> {
+    let command = parse(rt.alloc(), &EACH)?;
     let items = command.items.as_slice();
     assert_eq!(rt; items.len(), 3);
     assert!(rt; is_word(&items[0], b"a.o", false, Mark::Unknown));
@@ -105,18 +154,8 @@ fn each_word_has_its_effect(rt: HostRuntime) -> Result<(), Fail> {
     Ok(())
 }
 
-/// Whether an item is this word, outside a lib group.
-fn is_word(item: &Item, text: &[u8], library: bool, mark: Mark) -> bool {
-    match item {
-        Item::One(word) => {
-            word.text.as_slice() == text && word.library == library && word.mark == mark
-        }
-        Item::Lib(_) => false,
-    }
-}
-
 #[test]
-fn the_last_of_repeated_words_counts(rt: HostRuntime) -> Result<(), Fail> {
+fn the_last_of_repeated_words_counts(rt: HostRuntime) -> Result<(), CommandFault> {
     let words: [&[u8]; 12] = [
         b"--incremental-base=old",
         b"--incremental-base=out",
@@ -132,8 +171,7 @@ fn the_last_of_repeated_words_counts(rt: HostRuntime) -> Result<(), Fail> {
         b"--threads",
     ];
     let command = parse(rt.alloc(), &words)?;
-    let base = command.base.ok_or("no base")?;
-    assert_eq!(rt; base.as_slice(), b"out".as_slice());
+    assert!(rt; is_base(&command, b"out"));
     assert_eq!(rt; command.mode, Mode::Full);
     assert_eq!(rt; command.options.entry.as_slice(), b"g".as_slice());
     assert_eq!(rt; command.options.patch, 2);
@@ -142,47 +180,55 @@ fn the_last_of_repeated_words_counts(rt: HostRuntime) -> Result<(), Fail> {
 }
 
 #[test]
-fn a_base_that_is_the_output_is_none(rt: HostRuntime) -> Result<(), Fail> {
-    let named = parse(
-        rt.alloc(),
-        &[b"--incremental-base=out", b"a.o", b"-o", b"out"],
-    )?;
-    assert!(rt; named.base.is_none());
-    let default = parse(rt.alloc(), &[b"a.o", b"--incremental-base=a.out"])?;
-    assert!(rt; default.base.is_none());
+fn a_base_that_is_the_output_is_none(rt: HostRuntime) -> Result<(), CommandFault> {
+    let named: [&[u8]; 4] = [b"--incremental-base=out", b"a.o", b"-o", b"out"];
+    let default: [&[u8]; 2] = [b"a.o", b"--incremental-base=a.out"];
+    assert!(rt; parse(rt.alloc(), &named)?.base.is_none());
+    assert!(rt; parse(rt.alloc(), &default)?.base.is_none());
     Ok(())
 }
 
+/// Marks before, in and behind a lib group.
+const MARKED: [&[u8]; 9] = [
+    b"a.o",
+    b"--incremental-changed",
+    b"b.o",
+    b"--start-lib",
+    b"c.o",
+    b"--incremental-unchanged",
+    b"-lm",
+    b"--end-lib",
+    b"d.o",
+];
+
 #[test]
-fn a_mark_counts_for_the_inputs_after_it(rt: HostRuntime) -> Result<(), Fail> {
-    let words: [&[u8]; 9] = [
-        b"a.o",
-        b"--incremental-changed",
-        b"b.o",
-        b"--start-lib",
-        b"c.o",
-        b"--incremental-unchanged",
-        b"-lm",
-        b"--end-lib",
-        b"d.o",
-    ];
-    let command = parse(rt.alloc(), &words)?;
+fn a_mark_counts_for_the_inputs_after_it(rt: HostRuntime) -> Result<(), CommandFault> {
+    let command = parse(rt.alloc(), &MARKED)?;
     let items = command.items.as_slice();
     assert_eq!(rt; items.len(), 4);
     assert!(rt; is_word(&items[0], b"a.o", false, Mark::Unknown));
     assert!(rt; is_word(&items[1], b"b.o", false, Mark::Changed));
     assert!(rt; is_word(&items[3], b"d.o", false, Mark::Unchanged));
-    match &items[2] {
-        Item::One(_) => assert!(rt; false, "a lib group"),
-        Item::Lib(members) => {
-            let members = members.as_slice();
-            assert_eq!(rt; members.len(), 2);
-            assert_eq!(rt; members[0].text.as_slice(), b"c.o".as_slice());
-            assert_eq!(rt; members[0].mark, Mark::Changed);
-            assert!(rt; members[1].library);
-            assert_eq!(rt; members[1].mark, Mark::Unchanged);
-        }
+    Ok(())
+}
+
+/// The members of a lib group.
+fn members(item: &Item) -> &[Word] {
+    match item {
+        Item::One(_) => &[],
+        Item::Lib(members) => members.as_slice(),
     }
+}
+
+#[test]
+fn a_mark_counts_for_members_after_it(rt: HostRuntime) -> Result<(), CommandFault> {
+    let command = parse(rt.alloc(), &MARKED)?;
+    let items = command.items.as_slice();
+    assert_eq!(rt; items.len(), 4);
+    let members = members(&items[2]);
+    assert_eq!(rt; members.len(), 2);
+    assert!(rt; is_same(&members[0], b"c.o", false, Mark::Changed));
+    assert!(rt; is_same(&members[1], b"m", true, Mark::Unchanged));
     Ok(())
 }
 
@@ -317,28 +363,35 @@ const FAULTS: [Row; 30] = [
 ];
 
 #[test]
-fn words_that_are_no_command_have_their_first_fault(rt: HostRuntime) -> Result<(), Fail> {
+fn words_that_are_no_command_have_their_first_fault(rt: HostRuntime) {
     for row in &FAULTS {
         assert_eq!(rt; fault_of(rt.alloc(), row.words), Some(row.fault));
     }
-    Ok(())
+}
+
+/// The word of an input, so many times.
+fn many(alloc: Global, count: u32) -> Result<NameList, NoMemory> {
+    let mut words = List::new(alloc);
+    for _ in 0..count {
+        words.push(Name::from_slice(alloc, b"objects/inputa.o")?)?;
+    }
+    Ok(words)
+}
+
+/// How many items a command of these words has, or their fault.
+fn count(alloc: Global, words: &NameList) -> Result<usize, CommandFault> {
+    match parse_list(alloc, words) {
+        Ok(command) => Ok(command.items.as_slice().len()),
+        Err(fault) => Err(fault),
+    }
 }
 
 #[test]
-fn sixteen_million_bytes_of_words_are_taken(rt: HostRuntime) -> Result<(), Fail> {
-    let alloc = rt.alloc();
-    let mut words = List::new(alloc);
-    for _ in 0..1_048_576u32 {
-        words.push(Name::from_slice(alloc, b"objects/inputa.o")?)?;
-    }
-    let command = parse_list(alloc, &words)?;
-    assert_eq!(rt; command.items.as_slice().len(), 1_048_576);
-    words.push(Name::from_slice(alloc, b"-o")?)?;
-    match parse_list(alloc, &words) {
-        Err(CommandFault::Usage(fault)) => {
-            assert_eq!(rt; fault, UsageFault::MissingValue(1_048_577));
-        }
-        _ => assert!(rt; false, "a value is missing"),
-    }
+fn sixteen_million_bytes_of_words_are_taken(rt: HostRuntime) -> Result<(), NoMemory> {
+    let mut words = many(rt.alloc(), 1_048_576)?;
+    assert_eq!(rt; count(rt.alloc(), &words), Ok(1_048_576));
+    words.push(Name::from_slice(rt.alloc(), b"-o")?)?;
+    let fault = CommandFault::Usage(UsageFault::MissingValue(1_048_577));
+    assert_eq!(rt; count(rt.alloc(), &words), Err(fault));
     Ok(())
 }

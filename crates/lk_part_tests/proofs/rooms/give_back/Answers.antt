@@ -1,6 +1,6 @@
 use Rattle.std.proofs.Common.{sym, ◌∙◌}
-use Rattle.lk_freelist.proofs.Apart.{none_of_apart}
-use Rattle.lk_freelist.proofs.tests.give_back.Goals as goal
+use Rattle.lk_part_tests.proofs.Apart.{none_of_apart}
+use Rattle.lk_part_tests.proofs.rooms.give_back.Goals as goal
 
 pub take_back-requires-clause-taken : goal.take_back-requires-clause-taken
 take_back-requires-clause-taken g c =
