@@ -24,3 +24,4 @@ pub mod GroupWords
 pub mod NamedGroups
 pub mod PieceTypes
 pub mod RisingFields
+pub mod NoGroups

@@ -54,6 +54,10 @@ marked_fault elf marks n header =
 abbrev pub with_mark : List Bool → ℕ → List Bool
 with_mark marks n = slice_set marks n true
 
+-- a section that is a group
+abbrev pub is_group : Shdr → Bool
+is_group header = header.sh_type == sht_group
+
 -- the fault of a section after groups that claimed what is marked; a section that is no group has none
 unfoldable pub fault_if_group : Elf → List Bool → ℕ → Shdr → Option InputFault
 fault_if_group elf marks n header = if header.sh_type == sht_group then marked_fault elf marks n header else None

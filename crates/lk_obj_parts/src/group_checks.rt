@@ -14,7 +14,7 @@ ghost use Rattle.lk_model.specs.Checks.{first_fault, is_some_with};
 ghost use Rattle.lk_model.specs.ObjectChecks.{group_checks, group_checks_after, has_group_flag, is_group_size};
 ghost use Rattle.lk_model.specs.Objects.{group_sections, members_under, signature_of};
 ghost use Rattle.lk_obj_parts.specs.ElfViews.{elf_from};
-ghost use Rattle.lk_obj_parts.specs.GroupMarks.{are_bad_members, fault_if_group, is_bad_head, is_marked, is_section_in, is_table_at, marked_fault, marked_faults, marks_after, marks_of, with_mark};
+ghost use Rattle.lk_obj_parts.specs.GroupMarks.{are_bad_members, fault_if_group, is_bad_head, is_group, is_marked, is_section_in, is_table_at, marked_fault, marked_faults, marks_after, marks_of, with_mark};
 ghost use Rattle.lk_obj_parts.specs.GroupParts.{members_in, words_in};
 ghost use Rattle.lk_obj_parts.specs.SymbolTables.{symbols_at};
 
@@ -266,8 +266,21 @@ fn marked_faults(
     None
 }
 
-/// The first fault of the groups of an object, by rising section number.
-#[tactic(auto, using(crate::proofs::GroupsMarked::faults_told))]
+fn is_group(section: &Shdr) -> bool
+    ensures { result ≡ is_group section.now }
+{
+    section.sh_type == SHT_GROUP
+}
+
+/// Whether an object has a group.
+fn has_group(sections: &[Shdr]) -> bool
+    ensures { result ≡ list_any is_group sections.now }
+{
+    sections.iter().any(|section| is_group(section))
+}
+
+/// The first fault of the groups of an object, by rising section number. Where it has none, no memory is taken.
+#[tactic(auto, using(crate::proofs::GroupsMarked::faults_told, crate::proofs::NoGroups::no_fault_told))]
 pub fn groups_fault(
     alloc: Global,
     bytes: &[u8],
@@ -278,6 +291,9 @@ pub fn groups_fault(
     requires few { length sections.now < 2 ^ 32 }
     ensures { IfOk result (λ fault. fault ≡ first_fault (group_checks_after (elf_from bytes.now header.now sections.now symbols.now) [] (group_sections (elf_from bytes.now header.now sections.now symbols.now)))) }
 {
+    if !has_group(sections) {
+        return Ok(None);
+    }
     let Ok(mut marks) = Vec::from_elem(alloc, false, sections.len()) else {
         return Err(NoMemory);
     };

@@ -1,7 +1,7 @@
 -- The pieces of an object section by section (gABI "Sections"): each by its header, by its name, and by
 -- whether it has relocations, which is known of all sections at once.
-use Rattle.std.specs.Prelude.{ℕ, ◌==◌, ◌&&◌, Bool, not, if◌then◌else◌, List, [], take, drop, bytes_eq, filter_map, Option, option_map, option_and_then}
-use Rattle.std.specs.List.{enumerate_from}
+use Rattle.std.specs.Prelude.{◌≡◌, ℕ, ◌==◌, ◌&&◌, Bool, true, false, not, if◌then◌else◌, List, [], take, drop, length, replicate, bytes_eq, filter_map, Option, option_map, option_and_then}
+use Rattle.std.specs.List.{enumerate_from, list_any}
 use Rattle.lk_elf.specs.Numbers.{sht_nobits}
 use Rattle.lk_elf.specs.declared.section_header.Shdr.{Shdr}
 use Rattle.lk_model.specs.declared.layouts.SectionKey.{SectionKey}
@@ -10,16 +10,27 @@ use Rattle.lk_model.specs.Elf.{section_name}
 use Rattle.lk_model.specs.Objects.{four_zeros, is_frames, piece_named, piece_with}
 use Rattle.lk_model.specs.Pieces.{key_of}
 use Rattle.lk_model.specs.Views.{Elf}
+use Rattle.lk_obj_read.specs.RelocatedSections.{marked_by}
 
 -- the bytes of a section in a file of these bytes; a NOBITS section has none there
 abbrev pub held_bytes : List ℕ → Shdr → List ℕ
 held_bytes bytes header =
     if header.sh_type == sht_nobits then [] else take header.sh_size (drop header.sh_offset bytes)
 
+-- a section that holds exactly four zero bytes in a file of these bytes
+abbrev pub is_four_zeros : List ℕ → Shdr → Bool
+is_four_zeros bytes header = bytes_eq (held_bytes bytes header) four_zeros
+
+-- marks that tell of each section whether it has relocations, where one of them may be a terminator
+abbrev pub MarksServe : List ℕ → List Shdr → List Bool → Type 0
+MarksServe bytes headers marks =
+    list_any (is_four_zeros bytes) headers ≡ true
+    → marks ≡ marked_by bytes (replicate (length headers) false) (drop 1 headers)
+
 -- a terminator: frames of exactly four zero bytes, of a section that is told to have relocations or none
 abbrev pub is_terminator_told : List ℕ → Bool → Shdr → SectionKey → Bool
 is_terminator_told bytes relocated header key =
-    is_frames key && bytes_eq (held_bytes bytes header) four_zeros && not relocated
+    is_frames key && is_four_zeros bytes header && not relocated
 
 -- a section as a piece, by its name and by whether it has relocations
 unfoldable pub piece_told : List ℕ → Bool → ℕ → Shdr → List ℕ → Option PieceInfo

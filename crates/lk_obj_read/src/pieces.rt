@@ -1,25 +1,26 @@
 //! The pieces of an object: the sections that may be linked, each with its output section (gABI "Sections").
 //!
-//! Which sections have relocations is told for all of them at once, so that a terminator of frames is known
-//! by its mark and no list of relocations is looked for. Cost: one look at each section header and its name,
-//! and two names copied for each piece.
+//! A terminator of frames is four zero bytes without relocations. Where a section holds four zero bytes, which
+//! sections have relocations is told for all of them at once, so that no list of relocations is looked for; in
+//! most objects none does, and no mark is made. Cost: one look at each section header, one at the name of each
+//! section that can be a piece by its type and flags, and two names copied for each piece.
 
-ghost use Rattle.std.specs.Prelude.{◌≡◌, ◌<◌, ◌^◌, ◌++◌, List, [], bytes_eq, drop, false, length, option_and_then, option_to_list, replicate, take, IfOk, OnOk};
+ghost use Rattle.std.specs.Prelude.{◌≡◌, ◌<◌, ◌^◌, ◌++◌, List, [], bytes_eq, drop, length, option_and_then, option_to_list, take, IfOk, OnOk};
+ghost use Rattle.std.specs.List.{list_any};
 ghost use Rattle.std.specs.Option.{option_copied};
 ghost use Rattle.lk_elf.specs.declared.symbol.Sym.{Sym};
 ghost use Rattle.lk_model.specs.Elf.{section_name};
-ghost use Rattle.lk_model.specs.Objects.{alignment_of, four_zeros, is_frames, piece_with, pieces_in};
+ghost use Rattle.lk_model.specs.Objects.{alignment_of, is_frames, piece_with, pieces_in};
 ghost use Rattle.lk_obj_parts.specs.ElfViews.{elf_from};
 ghost use Rattle.lk_obj_parts.specs.GroupMarks.{is_marked};
-ghost use Rattle.lk_obj_read.specs.PieceParts.{held_bytes, is_terminator_told, piece_told};
-ghost use Rattle.lk_obj_read.specs.RelocatedSections.{marked_by};
+ghost use Rattle.lk_obj_read.specs.PieceParts.{MarksServe, held_bytes, is_four_zeros, is_terminator_told, piece_told};
 
 use crate::relocation_marks::relocated_sections;
 use lk_elf::numbers::SHT_NOBITS;
 use lk_elf::{Ehdr, Shdr};
 use lk_model::layouts::{Class, SectionKey};
 use lk_model::summaries::{PieceInfo, PieceInfoList};
-use lk_obj_parts::{key_of, section_name};
+use lk_obj_parts::{key_of, may_be_piece, section_name};
 use lk_report::{Name, NoMemory};
 use std::alloc::Global;
 
@@ -57,9 +58,16 @@ pub(crate) fn held_bytes<'a>(bytes: &'a [u8], section: &Shdr) -> &'a [u8]
 
 /// Whether a section holds exactly four zero bytes in the file.
 fn is_four_zeros(bytes: &[u8], section: &Shdr) -> bool
-    ensures { result ≡ bytes_eq (held_bytes bytes.now section.now) four_zeros }
+    ensures { result ≡ is_four_zeros bytes.now section.now }
 {
     held_bytes(bytes, section) == [0, 0, 0, 0].as_slice()
+}
+
+/// Whether a section of an object holds exactly four zero bytes, so that it may be a terminator.
+fn may_end_frames(bytes: &[u8], sections: &[Shdr]) -> bool
+    ensures { result ≡ list_any (is_four_zeros bytes.now) sections.now }
+{
+    sections.iter().any(|section| is_four_zeros(bytes, section))
 }
 
 /// Whether an output section is that of frames.
@@ -127,6 +135,7 @@ fn piece_named(
 }
 
 /// A section as a piece; none where it is no piece, or has no name.
+#[tactic(auto, using(crate::proofs::PiecesTold::no_piece))]
 fn piece_at(
     alloc: Global,
     bytes: &[u8],
@@ -138,10 +147,24 @@ fn piece_at(
 ) -> Result<Option<PieceInfo>, NoMemory>
     ensures { IfOk result (λ piece. piece ≡ option_and_then (piece_told bytes.now relocated n section.now) (section_name (elf_from bytes.now header.now sections.now []) n)) }
 {
+    if !may_be_piece(section.sh_type, section.sh_flags) {
+        return Ok(None);
+    }
     match section_name(bytes, header, sections, n) {
         None => Ok(None),
         Some(name) => piece_named(alloc, bytes, relocated, n, section, name),
     }
+}
+
+/// For each section, by its number, whether it has relocations, where a section may be a terminator; else no
+/// mark at all.
+fn needed_marks(alloc: Global, bytes: &[u8], sections: &[Shdr]) -> Result<Vec<bool>, NoMemory>
+    ensures { IfOk result (λ v. MarksServe bytes.now sections.now v.items) }
+{
+    if !may_end_frames(bytes, sections) {
+        return Ok(Vec::new(alloc));
+    }
+    relocated_sections(alloc, bytes, sections)
 }
 
 /// Whether a section is marked.
@@ -180,7 +203,7 @@ pub fn pieces_of(
     requires few { length sections.now < 2 ^ 32 }
     ensures { (symbols : List Sym) → IfOk result (λ pieces. pieces ≡ pieces_in (elf_from bytes.now header.now sections.now symbols)) }
 {
-    let marks = relocated_sections(alloc, bytes, sections)?;
+    let marks = needed_marks(alloc, bytes, sections)?;
     let mut pieces = PieceInfoList::new(alloc);
     for i in 1..sections.len() {
         let relocated = is_marked(&marks, i);
