@@ -4,7 +4,7 @@ use crate::making::{
     ABSOLUTE, Part, Relocation, Symbol, caller, changed, code, cut, function, leaf, object,
     undefined, zeros,
 };
-use crate::running::{Ended, link, one_file, two_files};
+use crate::running::{Ended, alone, link, one_file, two_files};
 use lk_report::Bytes;
 use std::alloc::Global;
 use std::test::Fail;
@@ -19,12 +19,6 @@ const SHARED: u8 = 3;
 
 /// The type R_X86_64_GOTPCREL (psABI "Relocation Types").
 const GOTPCREL: u64 = 9;
-
-/// What a link of one file did.
-fn alone(alloc: Global, file: Bytes) -> Result<Ended, Fail> {
-    let mut files = one_file(alloc, file)?;
-    link(alloc, "a.o", &mut files)
-}
 
 /// What a link of two files did.
 fn together(alloc: Global, a: Bytes, b: Bytes) -> Result<Ended, Fail> {

@@ -105,3 +105,9 @@ pub fn one_file(alloc: Global, a: Bytes) -> Result<MemoryFiles, Fail> {
 pub fn two_files(alloc: Global, a: Bytes, b: Bytes) -> Result<MemoryFiles, Fail> {
     with(one_file(alloc, a)?, "b.o", b)
 }
+
+/// What a link of one file did.
+pub fn alone(alloc: Global, file: Bytes) -> Result<Ended, Fail> {
+    let mut files = one_file(alloc, file)?;
+    link(alloc, "a.o", &mut files)
+}
