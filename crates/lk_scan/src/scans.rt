@@ -73,7 +73,7 @@ pub fn answer(alloc: Global, scan: Scan) -> Result<Scanned, ScanFailure>
     if has_faults(&faults) {
         return Err(ScanFailure::Faults(faults));
     }
-    let Ok(needs) = needs.into_needs(alloc) else {
+    let Ok(needs) = needs.to_needs(alloc) else {
         return Err(ScanFailure::NoMemory);
     };
     Ok(Scanned { needs, references })
