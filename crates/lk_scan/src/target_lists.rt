@@ -86,6 +86,9 @@ fn set_globals(
 
 /// What the symbols of an object mean, by their numbers, up to the last that is not LOCAL. What the names
 /// mean is taken from `meanings`, where it is known.
+///
+/// # Errors
+/// Want of memory.
 pub fn target_list(
     alloc: Global,
     resolution: &Resolution,
