@@ -1,9 +1,8 @@
 pub mod Folds
-pub mod KnownTypes
 pub mod SlotKeys
 pub mod OncePerName
 pub mod NamesSeen
-pub mod SymbolsFound
+pub mod TargetsListed
 pub mod NoFaults
 pub mod Joined
 pub mod NeedsJoined

@@ -1,5 +1,5 @@
 pub mod Targets
-pub mod SymbolMaps
+pub mod SymbolTargets
 pub mod ReferralFaults
 pub mod ReferralNeeds
 pub mod Noted

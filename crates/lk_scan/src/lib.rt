@@ -9,9 +9,9 @@
 //!
 //! Callers rely on two laws: a scan succeeds exactly where `told_once` of the faults is empty, and the faults
 //! that it tells are that list; and over the added inputs of a command, in adding order, the scans come to
-//! what lk_model finds of the whole link (`scans_are_the_links`). Each of an object's symbols that are not
-//! LOCAL is looked up once, by hash, so each reference takes constant time; with `NameMeanings` the symbols
-//! of a name are gone through once for a whole link.
+//! what lk_model finds of the whole link (`scans_are_the_links`). Each of an object's symbols is looked at once,
+//! before its references, and found by its number in a list, so each reference takes constant time; with
+//! `NameMeanings` the symbols of a name are gone through once for a whole link.
 #![tactic(auto)]
 
 mod forms;
@@ -25,7 +25,8 @@ mod noting;
 mod referral_faults;
 mod scans;
 mod slots;
-mod symbol_maps;
+mod symbol_targets;
+mod target_lists;
 mod targets;
 mod told_faults;
 

@@ -15,7 +15,7 @@ ghost use Rattle.lk_scan.specs.Targets.{meanings_of};
 use crate::name_meanings::NameMeanings;
 use crate::noting::{Scan, new_scan, note_pieces};
 use crate::scans::{ScanFailure, Scanned, answer};
-use crate::symbol_maps::{globals_of, map_meant};
+use crate::target_lists::target_list;
 use lk_obj_read::Object;
 use lk_report::NoMemory;
 use lk_resolve::Resolution;
@@ -53,8 +53,8 @@ fn note_object(
     requires input { input < length resolution.now.paths }
     ensures { OnOk result (scan.new ≡ with_pieces resolution.now (elf_of object.now) (summary_in (elf_of object.now)) input scan.old (summary_in (elf_of object.now)).pieces) }
 {
-    let map = map_meant(alloc, resolution.names(), meanings, globals_of(object))?;
-    note_pieces(scan, &map, resolution, object, input)
+    let targets = target_list(alloc, resolution, Some(meanings), object, input)?;
+    note_pieces(scan, &targets, resolution, object, input)
 }
 
 impl LinkScan {

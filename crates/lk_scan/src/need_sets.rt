@@ -194,8 +194,8 @@ impl NeedSets {
     }
 
     /// The needs as lists.
-    pub fn into_needs(self, alloc: Global) -> Result<Needs, NoMemory>
-        ensures { IfOk result (λ needs. needs ≡ self) }
+    pub fn to_needs(&self, alloc: Global) -> Result<Needs, NoMemory>
+        ensures { IfOk result (λ needs. needs ≡ self.now) }
     {
         Ok(Needs {
             got: list_of_slots(alloc, self.got.as_slice())?,

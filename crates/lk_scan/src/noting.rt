@@ -8,13 +8,13 @@ ghost use Rattle.lk_model.specs.Objects.{code_of_rela, is_piece_in, relocations_
 ghost use Rattle.lk_model.specs.ScanFaults.{is_eh_frame};
 ghost use Rattle.lk_scan.specs.Noted.{nothing_noted, with_pieces, with_referral, with_relas};
 ghost use Rattle.lk_scan.specs.ReferralNeeds.{recorded_on};
-ghost use Rattle.lk_scan.specs.SymbolMaps.{entries_of};
+ghost use Rattle.lk_scan.specs.SymbolTargets.{targets_of};
 ghost use Rattle.lk_scan.specs.Targets.{referral_of, setting_of};
 
 use crate::need_sets::NeedSets;
 use crate::referral_faults::note_faults;
-use crate::symbol_maps::{SymbolMap, symbol_target};
-use crate::targets::{Referral, Setting, Way};
+use crate::symbol_targets::symbol_target;
+use crate::targets::{Referral, Setting, Target, Way};
 use crate::told_faults::Told;
 use lk_elf::Rela;
 use lk_model::layouts::{Class, SectionKey};
@@ -139,14 +139,14 @@ fn note(
 
 /// A relocation of a section as a reference.
 fn referral_of(
-    map: &SymbolMap,
+    targets: &[Target],
     resolution: &Resolution,
     object: &Object,
     input: u32,
     section: u32,
     rela: &Rela,
 ) -> Referral
-    requires { map.now.entries ≡ entries_of resolution.now.rows (summary_in (elf_of object.now)).globals }
+    requires { targets.now ≡ targets_of resolution.now (elf_of object.now) (summary_in (elf_of object.now)) input }
     ensures { result ≡ referral_of resolution.now (elf_of object.now) (summary_in (elf_of object.now)) input section rela.now }
 {
     Referral {
@@ -155,20 +155,20 @@ fn referral_of(
         offset: rela.r_offset,
         code: code_of(rela),
         addend: rela.r_addend,
-        target: symbol_target(map, resolution, object, input, symbol_of(rela)),
+        target: symbol_target(targets, resolution, object, input, symbol_of(rela)),
     }
 }
 
 /// Looks at the relocations of a piece.
 fn note_piece(
     scan: &mut Scan,
-    map: &SymbolMap,
+    targets: &[Target],
     resolution: &Resolution,
     object: &Object,
     input: u32,
     piece: &PieceInfo,
 ) -> Result<(), NoMemory>
-    requires map { map.now.entries ≡ entries_of resolution.now.rows (summary_in (elf_of object.now)).globals }
+    requires targets { targets.now ≡ targets_of resolution.now (elf_of object.now) (summary_in (elf_of object.now)) input }
     requires input { input < length resolution.now.paths }
     requires piece { IsTrue (is_piece_in (elf_of object.now) piece.now.section) }
     ensures { OnOk result (scan.new ≡ with_relas resolution.now (elf_of object.now) (summary_in (elf_of object.now)) input piece.now scan.old (relocations_in (elf_of object.now) piece.now.section)) }
@@ -178,7 +178,7 @@ fn note_piece(
     let section = piece.section;
     let relas = object.relocations(section).as_slice();
     for rela in relas {
-        let referral = referral_of(map, resolution, object, input, section, rela);
+        let referral = referral_of(targets, resolution, object, input, section, rela);
         note(scan, resolution.names(), path, setting, &referral)?;
     }
     Ok(())
@@ -187,19 +187,19 @@ fn note_piece(
 /// Looks at the references of the kept pieces of an object, whose symbols mean this.
 pub fn note_pieces(
     scan: &mut Scan,
-    map: &SymbolMap,
+    targets: &[Target],
     resolution: &Resolution,
     object: &Object,
     input: u32,
 ) -> Result<(), NoMemory>
-    requires map { map.now.entries ≡ entries_of resolution.now.rows (summary_in (elf_of object.now)).globals }
+    requires targets { targets.now ≡ targets_of resolution.now (elf_of object.now) (summary_in (elf_of object.now)) input }
     requires input { input < length resolution.now.paths }
     ensures { OnOk result (scan.new ≡ with_pieces resolution.now (elf_of object.now) (summary_in (elf_of object.now)) input scan.old (summary_in (elf_of object.now)).pieces) }
 {
     let pieces = object.summary().pieces.as_slice();
     for piece in pieces {
         if resolution.is_kept(input, piece.section) {
-            note_piece(scan, map, resolution, object, input, piece)?;
+            note_piece(scan, targets, resolution, object, input, piece)?;
         }
     }
     Ok(())

@@ -10,7 +10,7 @@ ghost use Rattle.lk_scan.specs.Noted.{nothing_noted, with_pieces};
 ghost use Rattle.lk_scan.specs.Scans.{object_references, Answers, ScanGives};
 
 use crate::noting::{Scan, new_scan, note_pieces};
-use crate::symbol_maps::{globals_of, map_symbols};
+use crate::target_lists::target_list;
 use lk_model::layouts::Needs;
 use lk_model::records::ReferenceList;
 use lk_obj_read::Object;
@@ -53,9 +53,9 @@ fn note_all(
     requires { input < length resolution.now.paths }
     ensures { IfOk result (λ scan. scan ≡ with_pieces resolution.now (elf_of object.now) (summary_in (elf_of object.now)) input nothing_noted (summary_in (elf_of object.now)).pieces) }
 {
-    let map = map_symbols(alloc, resolution.names(), globals_of(object))?;
+    let targets = target_list(alloc, resolution, None, object, input)?;
     let mut scan = new_scan(alloc);
-    note_pieces(&mut scan, &map, resolution, object, input)?;
+    note_pieces(&mut scan, &targets, resolution, object, input)?;
     Ok(scan)
 }
 
@@ -73,7 +73,7 @@ pub fn answer(alloc: Global, scan: Scan) -> Result<Scanned, ScanFailure>
     if has_faults(&faults) {
         return Err(ScanFailure::Faults(faults));
     }
-    let Ok(needs) = needs.into_needs(alloc) else {
+    let Ok(needs) = needs.to_needs(alloc) else {
         return Err(ScanFailure::NoMemory);
     };
     Ok(Scanned { needs, references })
