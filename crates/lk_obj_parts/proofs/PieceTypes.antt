@@ -1,7 +1,7 @@
 -- A section whose type and flags rule a piece out is none, whatever its name is.
 use Rattle.std.specs.Prelude.{◌≡◌, refl, ℕ, Bool, true, false, not, ◌&&◌, ◌||◌, cond, ◌==◌, bytes_eq, codes, List, Option, Some, None}
 use Rattle.std.specs.Bool.{then_some}
-use Rattle.std.proofs.Common.{ap, ◌∙◌}
+use Rattle.std.proofs.Common.{ap}
 use Rattle.lk_elf.specs.Numbers.{sht_progbits, shf_alloc}
 use Rattle.lk_elf.specs.declared.section_header.Shdr.{Shdr}
 use Rattle.lk_model.specs.Amounts.{has_flag}
