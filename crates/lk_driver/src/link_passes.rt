@@ -1,10 +1,11 @@
 //! The passes of a link of inputs that were read, each with the status that it ends the link with.
 
-ghost use Rattle.std.specs.Prelude.{◌≡◌, ◌≤◌, ◌^◌, List, length, All, IfOk};
+ghost use Rattle.std.specs.Prelude.{◌≡◌, ◌≤◌, List, [], filter_map, length, map, IfOk};
 ghost use Rattle.lk_report.specs.declared.causes.OptionRecord.{OptionRecord as OptionsTold};
 ghost use Rattle.lk_model.specs.Resolving.{resolve};
 ghost use Rattle.lk_model.specs.Views.{Input};
 ghost use Rattle.lk_link_scan.specs.Objects.{AreObjects};
+ghost use Rattle.lk_passes.specs.FilesRead.{fault_in, summary_of};
 ghost use Rattle.lk_passes.specs.Named.{files_of};
 ghost use Rattle.lk_passes.specs.Refusals.{AreInputs};
 ghost use Rattle.lk_passes.specs.Resolves.{found_in};
@@ -15,7 +16,7 @@ ghost use Rattle.lk_driver.specs.LinkPasses.{PlaceAnswers, ScanAnswers, SettleAn
 use lk_layout::full_layout;
 use lk_link_scan::{ScannedInputs, scan_inputs};
 use lk_model::layouts::{LayoutFault, Needs, Placement};
-use lk_model::summaries::SummaryList;
+use lk_model::summaries::{InputSummary, SummaryList};
 use lk_passes::{InputFileList, Inputs, resolve_inputs};
 use lk_report::{OptionRecord, Status};
 use lk_resolve::{Resolution, SettleFault};
@@ -45,21 +46,24 @@ pub(crate) fn settle(
     }
 }
 
-/// What the references of the added inputs need, with the objects that their files are.
+/// What the references of the added inputs need, with the objects that their files are. No file has a fault, and
+/// these are the summaries of the files, by number.
 ///
 /// # Errors
 /// The faults of the references; want of memory.
 pub(crate) fn scan(
     alloc: Global,
     files: InputFileList,
+    summaries: &[InputSummary],
     resolution: &Resolution,
 ) -> Result<ScannedInputs, Status>
-    requires short { All (λ file. length file.bytes ≤ 2 ^ 26) files }
+    requires sound { filter_map fault_in files ≡ [] }
+    requires summaries { summaries.now ≡ map summary_of files }
     requires numbered { length files ≤ length resolution.now.paths }
     ensures scanned { (options : OptionsTold) (xs : List Input) → files ≡ files_of xs → AreObjects xs → IsFound resolution.now (found_in options.entry xs) → ScanAnswers (resolve options xs) files result }
     ensures count { IfOk result (λ scanned. length scanned.names ≡ length files) }
 {
-    match scan_inputs(alloc, files, resolution) {
+    match scan_inputs(alloc, files, summaries, resolution) {
         Ok(scanned) => Ok(scanned),
         Err(ScanFailure::Faults(faults)) => Err(Status::LinkError(faults)),
         Err(ScanFailure::NoMemory) => Err(Status::NoMemory),

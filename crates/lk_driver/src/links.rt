@@ -3,6 +3,7 @@
 ghost use Rattle.std.specs.Prelude.{◌≡◌, ◌≤◌, ◌^◌, List, length, All};
 ghost use Rattle.lk_model.specs.Resolving.{resolve};
 ghost use Rattle.lk_model.specs.Views.{Input};
+ghost use Rattle.lk_passes.specs.Asked.{AreSound};
 ghost use Rattle.lk_driver.specs.LinkAnswers.{LinkAnswers};
 ghost use Rattle.lk_driver.specs.LinkPasses.{LinkGives, needs_answer};
 ghost use Rattle.lk_driver.specs.ReadInputs.{AreReadInputs};
@@ -45,7 +46,7 @@ fn link_scanned(
     )
 }
 
-/// The image of a link of inputs that were read.
+/// The image of a link of inputs that were read, none of which is shared or has a fault.
 ///
 /// # Errors
 /// The first of these: too many names, or the faults of names; the faults of references; a link that needs a slot,
@@ -58,12 +59,13 @@ pub(crate) fn link_inputs(
 ) -> Result<Bytes, Status>
     requires alike { length inputs.files ≡ length inputs.summaries }
     requires short { All (λ file. length file.bytes ≤ 2 ^ 26) inputs.files }
+    requires sound { AreSound inputs }
     ensures { (xs : List Input) → AreReadInputs options.now xs inputs → LinkAnswers (resolve options.now xs) result }
 {
     // So the records of the link can be read back.
     files_fit(inputs.files.as_slice());
     let resolution = settle(alloc, options, &inputs)?;
     let Inputs { files, summaries } = inputs;
-    let scanned = scan(alloc, files, &resolution)?;
+    let scanned = scan(alloc, files, summaries.as_slice(), &resolution)?;
     link_scanned(alloc, options, &resolution, summaries, scanned)
 }

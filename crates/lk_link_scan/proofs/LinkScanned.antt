@@ -1,10 +1,9 @@
 -- The scans of the objects of a link, in adding order, are what lk_model finds of the whole link.
-use Rattle.std.proofs.Common.{◌≡◌, refl, sym, ap, ◌∙◌, subst, arith, ℕ, zero, suc, ◌+◌, ◌<◌, nat_eq, Bool, true, false, ◌||◌, ◌&&◌, cond, List, [], ◌∷◌, ◌++◌, drop, fold, get_or, length, map, Option, Some, None, Result, Ok, Err, slice_get}
-use Rattle.std.specs.Prelude.{is_none, option_map}
+use Rattle.std.proofs.Common.{◌≡◌, refl, sym, ap, ◌∙◌, subst, arith, ℕ, zero, suc, ◌+◌, ◌<◌, nat_eq, Bool, true, false, ◌||◌, cond, List, [], ◌∷◌, ◌++◌, drop, fold, get_or, length, map, Option, Some, None, Result, Ok, Err, slice_get}
+use Rattle.std.specs.Prelude.{option_map}
 use Rattle.std.proofs.lemmas.Bool.{eq-eqb}
 use Rattle.std.proofs.lemmas.List.{append-nil, append_assoc, drop_more, length-map}
 use Rattle.lk_report.specs.declared.causes.OptionRecord.{OptionRecord}
-use Rattle.lk_report.specs.declared.faults.InputFault.{InputFault}
 use Rattle.lk_model.specs.Elf.{elf_of}
 use Rattle.lk_model.specs.Finding.{Found}
 use Rattle.lk_model.specs.Numbered.{is_number_in}
@@ -26,7 +25,7 @@ use Rattle.lk_scan.specs.declared.noting.Scan.{Scan}
 use Rattle.lk_scan.specs.declared.scans.ScanFailure.{ScanFailure}
 use Rattle.lk_scan.specs.declared.scans.ScanFailure.TheVariants as failure
 use Rattle.lk_scan.specs.declared.scans.Scanned.{Scanned}
-use Rattle.lk_link_scan.specs.Objects.{AreObjects, IsObject, ObjectsGive, are_sound, input_name, input_names, objects_from, objects_of}
+use Rattle.lk_link_scan.specs.Objects.{AreObjects, HasObjects, IsObject, input_name, input_names, objects_from, objects_of}
 use Rattle.lk_link_scan.specs.Scans.{InputsScanned, object_in, scan_with, scans_of}
 use Rattle.lk_link_scan.specs.declared.link_scanning.ScannedInputs.{ScannedInputs}
 use Rattle.lk_link_scan.specs.declared.object_reading.LinkObjects.{LinkObjects}
@@ -141,7 +140,7 @@ whole_answers law options xs settled files objects scan are sound is read told =
     subst (λ (s : Scan). Answers s scan) same told
 
 pub scanned_told : (options : OptionRecord) (xs : List Input) (settled : Settled) (files : List InputFile) (read : LinkObjects) (s : Scanned) (given : ScannedInputs)
-    → IsFound settled (found_in options.entry xs) → ObjectsGive (objects_of settled.added files) files (Ok read) → Answers (whole_of (resolve options xs)) (Ok s)
+    → IsFound settled (found_in options.entry xs) → HasObjects (objects_of settled.added files) files read → Answers (whole_of (resolve options xs)) (Ok s)
     → given ≡ record { names = read.names; objects = read.objects; needs = s.needs; references = s.references }
     → InputsScanned (resolve options xs) files (Ok given)
 unfolding whole_of
@@ -159,18 +158,6 @@ failed_told r files f result answers e = subst (InputsScanned r files) (sym e) (
   where
     by : (g : ScanFailure) → Answers (whole_of r) (Err g) → InputsScanned r files (Err g)
     by (failure.Faults faults) a = (a.1, a.0)
-    by failure.NoMemory a = tt
-
-all_sound : (xs : List Input) → AreObjects xs → are_sound (files_of xs) ≡ true
-all_sound [] h = refl
-all_sound (x ∷ xs) h = λ i. (ap (λ (o : Option InputFault). is_none o) h.0.no_fault i) && all_sound xs h.1 i
-
--- a file without a fault is not told
-pub unread_told : (r : Resolved) (xs : List Input) (objects : List (Option (List ℕ))) (files : List InputFile) (f : ScanFailure) (result : Result ScannedInputs ScanFailure) → files ≡ files_of xs → AreObjects xs → ObjectsGive objects files (Err f) → result ≡ Err f → InputsScanned r files result
-unread_told r xs objects files f result are sound h e = subst (InputsScanned r files) (sym e) (by f h)
-  where
-    by : (g : ScanFailure) → ObjectsGive objects files (Err g) → InputsScanned r files (Err g)
-    by (failure.Faults faults) a = absurd (let e : true ≡ false = sym (all_sound xs sound) ∙ ap are_sound (sym are) ∙ a in cc)
     by failure.NoMemory a = tt
 
 -- each file has one name

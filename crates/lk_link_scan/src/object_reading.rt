@@ -1,21 +1,29 @@
-//! The files of the added inputs are read as objects, by the numbers of the inputs.
+//! The files of the added inputs become objects, by the numbers of the inputs.
+//!
+//! Each file was checked and summarized as it was read, and that is not done again: an object takes the bytes of
+//! its file, and a copy of its summary, which later passes ask for by input. What is read here is what a summary
+//! does not hold, the section headers and the relocations, and of the added inputs alone.
 
-ghost use Rattle.std.specs.Prelude.{◌≡◌, ◌≤◌, ◌^◌, ◌∷◌, ◌++◌, [], cond, Some, None, length, All, IfOk, OnOk};
-ghost use Rattle.lk_link_scan.specs.Objects.{InputRead, IsFault, MarkedGives, ObjectGives, ObjectsGive, marked_objects, objects_of};
+ghost use Rattle.std.specs.Prelude.{◌≡◌, ◌∷◌, ◌++◌, [], cond, filter_map, map, Some, None, length, IfOk, OnOk};
+ghost use Rattle.lk_model.specs.Elf.{elf_of};
+ghost use Rattle.lk_model.specs.ObjectChecks.{object_fault};
+ghost use Rattle.lk_model.specs.Objects.{summary_in};
+ghost use Rattle.lk_passes.specs.FilesRead.{fault_in, summary_of};
+ghost use Rattle.lk_link_scan.specs.Objects.{HasObjects, marked_objects, objects_of, with_input};
 
 use crate::added_marks::added_marks;
-use lk_obj_read::{Object, ReadFailure, read_object};
+use lk_model::summaries::InputSummary;
+use lk_obj_read::{Object, copy_summary, object_of};
 use lk_passes::{InputFile, InputFileList, InputName, InputNameList};
-use lk_report::{Bytes, Fault, FaultList, InputFault, List, Name, NoMemory};
+use lk_report::{Bytes, List, NoMemory};
 use lk_resolve::Resolution;
-use lk_scan::ScanFailure;
 use std::alloc::Global;
 
 /// Objects by the numbers of the inputs that they are; none for an input that is not added.
 pub type ObjectList = List<Option<Object>>;
 
-/// The inputs of a link, of which those that are added are read as objects. An object owns the bytes of its
-/// file; the bytes of the other files are dropped.
+/// The inputs of a link, of which those that are added are objects. An object owns the bytes of its file; the
+/// bytes of the other files are dropped.
 #[derive(Drop)]
 pub struct LinkObjects {
     /// What is known of each input, by its number.
@@ -24,55 +32,22 @@ pub struct LinkObjects {
     pub objects: ObjectList,
 }
 
-/// The one fault of a file.
-fn one_fault(alloc: Global, path: &Name, fault: InputFault) -> Result<FaultList, NoMemory>
-    ensures { IfOk result (λ faults. faults ≡ Fault.Input path.now fault ∷ []) }
-{
-    let path = path.copy(alloc)?;
-    let mut faults = List::new(alloc);
-    faults.push(Fault::Input { path, fault })?;
-    Ok(faults)
-}
-
-/// What is told of a file that has a fault.
-fn faulty(alloc: Global, path: &Name, fault: InputFault) -> ScanFailure
-    ensures { IsFault path.now (Some fault) result }
-{
-    match one_fault(alloc, path, fault) {
-        Ok(faults) => ScanFailure::Faults(faults),
-        Err(NoMemory) => ScanFailure::NoMemory,
-    }
-}
-
-/// The object of a file.
-///
-/// # Errors
-/// The fault of the file; want of memory.
-fn object_of(alloc: Global, path: &Name, bytes: Bytes) -> Result<Object, ScanFailure>
-    requires { length bytes ≤ 2 ^ 26 }
-    ensures { ObjectGives path.now bytes result }
-{
-    match read_object(alloc, bytes) {
-        Ok(object) => Ok(object),
-        Err(ReadFailure::Input(fault)) => Err(faulty(alloc, path, fault)),
-        Err(ReadFailure::NoMemory) => Err(ScanFailure::NoMemory),
-    }
-}
-
 /// The object of a file, where its input is added.
 fn object_where(
     alloc: Global,
     is_added: bool,
-    path: &Name,
     bytes: Bytes,
-) -> Result<Option<Object>, ScanFailure>
-    requires { length bytes ≤ 2 ^ 26 }
-    ensures { MarkedGives is_added path.now bytes result }
+    summary: &InputSummary,
+) -> Result<Option<Object>, NoMemory>
+    requires sound { object_fault bytes ≡ None }
+    requires summary { summary.now ≡ summary_in (elf_of bytes) }
+    ensures { IfOk result (λ object. object ≡ cond is_added (Some bytes) None) }
 {
     if !is_added {
         return Ok(None);
     }
-    Ok(Some(object_of(alloc, path, bytes)?))
+    let summary = copy_summary(alloc, summary)?;
+    Ok(Some(object_of(alloc, bytes, summary)?))
 }
 
 /// Puts one more input at the end.
@@ -88,33 +63,35 @@ fn put_input(
     Ok(())
 }
 
-/// Reads one more input, where it is added.
+/// Puts one more input at the end, with its object, where it is added.
 fn read_input(
     alloc: Global,
     is_added: bool,
     file: InputFile,
+    summary: &InputSummary,
     read: &mut LinkObjects,
-) -> Result<(), ScanFailure>
-    requires { length file.bytes ≤ 2 ^ 26 }
-    ensures { InputRead is_added file read.old result read.new }
+) -> Result<(), NoMemory>
+    requires sound { object_fault file.bytes ≡ None }
+    requires summary { summary.now ≡ summary_of file }
+    ensures { OnOk result (read.new ≡ with_input read.old is_added file) }
 {
     let InputFile { name, bytes } = file;
-    let object = object_where(alloc, is_added, &name.path, bytes)?;
-    match put_input(read, name, object) {
-        Ok(()) => Ok(()),
-        Err(NoMemory) => Err(ScanFailure::NoMemory),
-    }
+    let object = object_where(alloc, is_added, bytes, summary)?;
+    put_input(read, name, object)
 }
 
-/// Reads the files of those inputs that are marked.
+/// The inputs of these files, with the objects of those that are marked.
+#[tactic(auto, using(crate::proofs::ObjectsRead::file_sound, crate::proofs::ObjectsRead::summary_there, crate::proofs::ObjectsRead::summary_here))]
 fn read_marked(
     alloc: Global,
     marks: &[bool],
     files: InputFileList,
-) -> Result<LinkObjects, ScanFailure>
+    summaries: &[InputSummary],
+) -> Result<LinkObjects, NoMemory>
     requires alike { length marks.now ≡ length files }
-    requires short { All (λ file. length file.bytes ≤ 2 ^ 26) files }
-    ensures { ObjectsGive (marked_objects marks.now files) files result }
+    requires sound { filter_map fault_in files ≡ [] }
+    requires summaries { summaries.now ≡ map summary_of files }
+    ensures { IfOk result (HasObjects (marked_objects marks.now files) files) }
 {
     let mut read = LinkObjects {
         names: List::new(alloc),
@@ -122,28 +99,29 @@ fn read_marked(
     };
     let mut number = 0;
     for file in files.into_vec() {
-        read_input(alloc, marks[number], file, &mut read)?;
+        read_input(alloc, marks[number], file, &summaries[number], &mut read)?;
         number += 1;
     }
     Ok(read)
 }
 
-/// Reads the files of the added inputs of a link as objects, which take the bytes over (gABI "Object Files").
+/// The inputs of a link, with the objects of those that are added (gABI "Object Files"). The objects take the
+/// bytes of the files over. No file has a fault, and these are the summaries of the files, by number.
 ///
 /// # Errors
-/// A fault of a file, as soon as it is met; want of memory.
+/// Want of memory alone.
 pub fn read_objects(
     alloc: Global,
     files: InputFileList,
+    summaries: &[InputSummary],
     resolution: &Resolution,
-) -> Result<LinkObjects, ScanFailure>
-    requires { All (λ file. length file.bytes ≤ 2 ^ 26) files }
-    ensures read { ObjectsGive (objects_of resolution.now.added files) files result }
+) -> Result<LinkObjects, NoMemory>
+    requires sound { filter_map fault_in files ≡ [] }
+    requires summaries { summaries.now ≡ map summary_of files }
+    ensures read { IfOk result (HasObjects (objects_of resolution.now.added files) files) }
     ensures count { IfOk result (λ read. length read.objects ≡ length files) }
 {
     let count = files.as_slice().len();
-    match added_marks(alloc, count, resolution.added().as_slice()) {
-        Ok(marks) => read_marked(alloc, &marks, files),
-        Err(NoMemory) => Err(ScanFailure::NoMemory),
-    }
+    let marks = added_marks(alloc, count, resolution.added().as_slice())?;
+    read_marked(alloc, &marks, files, summaries)
 }

@@ -1,9 +1,10 @@
 //! Where a link of inputs that were read, made anew, puts everything.
 
-ghost use Rattle.std.specs.Prelude.{◌≡◌, ◌≤◌, ◌^◌, List, length, All};
+ghost use Rattle.std.specs.Prelude.{◌≡◌, List, length};
 ghost use Rattle.lk_model.specs.Resolving.{resolve};
 ghost use Rattle.lk_model.specs.Views.{Input};
 ghost use Rattle.lk_link_scan.specs.Objects.{AreObjects};
+ghost use Rattle.lk_passes.specs.Asked.{AreSound};
 ghost use Rattle.lk_passes.specs.Refusals.{AreInputs};
 ghost use Rattle.lk_passes.specs.Resolves.{settle_status};
 ghost use Rattle.lk_probe.specs.Laying.{InputsLaid, layout_status, scan_status, unplaced_status};
@@ -97,14 +98,14 @@ pub fn status_of(unplaced: Unplaced) -> Status
 }
 
 /// Where a link of inputs that were read, made anew, puts everything: the files are added and settled, the
-/// added ones are read as objects and scanned, and what they keep is laid out.
+/// added ones become objects and are scanned, and what they keep is laid out. No input is shared or has a fault.
 ///
 /// # Errors
 /// More names than 2^20; the faults of the names; those of the references; more output sections or memory than
 /// a link may have; want of memory.
 pub fn place_inputs(alloc: Global, command: &Command, inputs: Inputs) -> Result<Placement, Unplaced>
     requires alike { length inputs.files ≡ length inputs.summaries }
-    requires short { All (λ file. length file.bytes ≤ 2 ^ 26) inputs.files }
+    requires sound { AreSound inputs }
     ensures { (xs : List Input) → AreInputs xs inputs → AreObjects xs → InputsLaid (resolve command.now.options xs) result }
 {
     let Inputs { files, summaries } = inputs;
@@ -115,7 +116,7 @@ pub fn place_inputs(alloc: Global, command: &Command, inputs: Inputs) -> Result<
         files.as_slice(),
         summaries.as_slice(),
     )?;
-    let scanned = scan_inputs(alloc, files, &resolution)?;
+    let scanned = scan_inputs(alloc, files, summaries.as_slice(), &resolution)?;
     let placement = full_layout(alloc, &resolution, &summaries, &scanned.needs, options)?;
     Ok(placement)
 }

@@ -3,28 +3,22 @@ use Rattle.std.proofs.lemmas.Result.{err_from_is_err_and}
 use Rattle.lk_model.specs.Resolving.{resolve}
 use Rattle.lk_passes.specs.Resolves.{found_in}
 use Rattle.lk_scan.proofs.LinkScanned.{scans_are_the_links}
-use Rattle.lk_link_scan.specs.Objects.{objects_of}
-use Rattle.lk_link_scan.proofs.LinkScanned.{failed_told, one_name_each, scanned_told, unread_told, whole_answers}
+use Rattle.lk_link_scan.proofs.LinkScanned.{failed_told, one_name_each, scanned_told, whole_answers}
 use Rattle.lk_link_scan.proofs.link_scanning.scan_inputs.Goals as goal
-
-pub returns-in_err-read-clause-scanned : goal.returns-in_err-read-clause-scanned
-returns-in_err-read-clause-scanned c = λ options xs are sound is.
-    let p = err_from_is_err_and c.from_residual.result c.from_residual.ensures.1 in
-    unread_told (resolve options xs) xs (objects_of c.args.resolution.now.added c.args.files) c.args.files _ c.from_residual.result are sound c.in_err-read.ensures.read (p.1 ∙ ap (λ f. Err f) p.2)
 
 pub returns-in_err-scanned-clause-scanned : goal.returns-in_err-scanned-clause-scanned
 returns-in_err-scanned-clause-scanned c = λ options xs are sound is.
-    let p = err_from_is_err_and c.from_residual-in_err-scanned.result c.from_residual-in_err-scanned.ensures.1 in
-    failed_told (resolve options xs) c.args.files _ c.from_residual-in_err-scanned.result
-    (whole_answers scans_are_the_links options xs c.args.resolution.now c.args.files c.as_slice.result.now (Err c.in_err-scanned.field-0.0) are sound is (c.as_slice.ensures ∙ c.in_ok-read.ensures.read.1) (c.in_err-scanned.ensures (found_in options.entry xs) is))
+    let p = err_from_is_err_and c.from_residual.result c.from_residual.ensures.1 in
+    failed_told (resolve options xs) c.args.files _ c.from_residual.result
+    (whole_answers scans_are_the_links options xs c.args.resolution.now c.args.files c.as_slice.result.now (Err c.in_err-scanned.field-0.0) are sound is (c.as_slice.ensures ∙ c.in-Ok.ensures.read.1) (c.in_err-scanned.ensures (found_in options.entry xs) is))
     (p.1 ∙ ap (λ f. Err f) p.2)
 
 pub returns-clause-scanned : goal.returns-clause-scanned
 returns-clause-scanned c = λ options xs are sound is.
-    scanned_told options xs c.args.resolution.now c.args.files c.in_ok-read.read c.in_ok-scanned.scanned _ is c.in_ok-read.ensures.read
-    (whole_answers scans_are_the_links options xs c.args.resolution.now c.args.files c.as_slice.result.now (Ok c.in_ok-scanned.scanned) are sound is (c.as_slice.ensures ∙ c.in_ok-read.ensures.read.1) (c.in_ok-scanned.ensures (found_in options.entry xs) is))
+    scanned_told options xs c.args.resolution.now c.args.files c.in-Ok.read c.in_ok-scanned.scanned _ is c.in-Ok.ensures.read
+    (whole_answers scans_are_the_links options xs c.args.resolution.now c.args.files c.as_slice.result.now (Ok c.in_ok-scanned.scanned) are sound is (c.as_slice.ensures ∙ c.in-Ok.ensures.read.1) (c.in_ok-scanned.ensures (found_in options.entry xs) is))
     refl
 
 -- each file has its name
 pub returns-clause-count : goal.returns-clause-count
-returns-clause-count c = one_name_each c.args.files c.in_ok-read.read.names c.in_ok-read.ensures.read.0
+returns-clause-count c = one_name_each c.args.files c.in-Ok.read.names c.in-Ok.ensures.read.0
