@@ -25,3 +25,4 @@ pub mod NamedGroups
 pub mod PieceTypes
 pub mod RisingFields
 pub mod NoGroups
+pub mod MarkedRows

@@ -7,24 +7,24 @@ use Rattle.lk_elf.specs.declared.section_header.Shdr.{Shdr}
 use Rattle.lk_model.specs.Elf.{numbered}
 use Rattle.lk_model.specs.Objects.{is_piece_in}
 use Rattle.lk_model.specs.Views.{Elf}
-use Rattle.lk_obj_parts.specs.TargetRows.{is_row_on, piece_rows, rows_on, with_row}
+use Rattle.lk_obj_parts.specs.TargetRows.{is_marked_row, marked_rows_on, piece_rows, rows_on, with_row}
 
 put : (on : Bool) (rows rest : List (ℕ × Shdr)) (row : ℕ × Shdr) → with_row on rows row ++ rest ≡ rows ++ cond on (row ∷ rest) rest
 put true rows rest row = append_assoc rows (row ∷ []) rest
 put false rows rest row = refl
 
 -- one section more
-pub row_put : (elf : Elf) (t i : ℕ) (headers : List Shdr) (rows new : List (ℕ × Shdr)) (d : Shdr) → i < length headers → new ≡ with_row (is_row_on elf t (i, get_or headers i d)) rows (i, get_or headers i d) → new ++ rows_on elf t (i + 1) (drop (i + 1) headers) ≡ rows ++ rows_on elf t i (drop i headers)
-row_put elf t i headers rows new d l e =
-    ap (λ r. r ++ rows_on elf t (i + 1) (drop (i + 1) headers)) e
-    ∙ put (is_row_on elf t (i, get_or headers i d)) rows (rows_on elf t (i + 1) (drop (i + 1) headers)) (i, get_or headers i d)
-    ∙ ap (λ n. rows ++ rows_on elf t i (get_or headers i d ∷ drop n headers)) (add-one i)
-    ∙ ap (λ hs. rows ++ rows_on elf t i hs) (sym (drop-cons headers i d l))
+pub row_put : (elf : Elf) (rise : Bool) (t i : ℕ) (headers : List Shdr) (rows new : List (ℕ × Shdr)) (d : Shdr) → i < length headers → new ≡ with_row (is_marked_row elf rise t (i, get_or headers i d)) rows (i, get_or headers i d) → new ++ marked_rows_on elf rise t (i + 1) (drop (i + 1) headers) ≡ rows ++ marked_rows_on elf rise t i (drop i headers)
+row_put elf rise t i headers rows new d l e =
+    ap (λ r. r ++ marked_rows_on elf rise t (i + 1) (drop (i + 1) headers)) e
+    ∙ put (is_marked_row elf rise t (i, get_or headers i d)) rows (marked_rows_on elf rise t (i + 1) (drop (i + 1) headers)) (i, get_or headers i d)
+    ∙ ap (λ n. rows ++ marked_rows_on elf rise t i (get_or headers i d ∷ drop n headers)) (add-one i)
+    ∙ ap (λ hs. rows ++ marked_rows_on elf rise t i hs) (sym (drop-cons headers i d l))
 
-pub all_put : (elf : Elf) (t i : ℕ) (headers : List Shdr) (rows : List (ℕ × Shdr)) → length headers ≤ i → rows ++ rows_on elf t i (drop i headers) ≡ rows
-all_put elf t i headers rows l = ap (λ hs. rows ++ rows_on elf t i hs) (drop_all i headers l) ∙ append-nil rows
+pub all_put : (elf : Elf) (rise : Bool) (t i : ℕ) (headers : List Shdr) (rows : List (ℕ × Shdr)) → length headers ≤ i → rows ++ marked_rows_on elf rise t i (drop i headers) ≡ rows
+all_put elf rise t i headers rows l = ap (λ hs. rows ++ marked_rows_on elf rise t i hs) (drop_all i headers l) ∙ append-nil rows
 
-and-right : (a b : Bool) → (a && b) ≡ cond b a false
+pub and-right : (a b : Bool) → (a && b) ≡ cond b a false
 and-right true true = refl
 and-right true false = refl
 and-right false true = refl
@@ -37,7 +37,7 @@ filter-none (x ∷ xs) = filter-none xs
 filter-step : {X : Type 0} (t u : Bool) (x : X) (xs ys : List X) → t ≡ u → xs ≡ ys → cond t (x ∷ xs) xs ≡ cond u (x ∷ ys) ys
 filter-step t u x xs ys e f = ap (λ b. cond b (x ∷ xs) xs) e ∙ ap (λ zs. cond u (x ∷ zs) zs) f
 
-filter-same : {X : Type 0} (p q : X → Bool) → ((x : X) → p x ≡ q x) → (xs : List X) → filter p xs ≡ filter q xs
+pub filter-same : {X : Type 0} (p q : X → Bool) → ((x : X) → p x ≡ q x) → (xs : List X) → filter p xs ≡ filter q xs
 filter-same p q h [] = refl
 filter-same p q h (x ∷ xs) = filter-step (p x) (q x) x (filter p xs) (filter q xs) (h x) (filter-same p q h xs)
 

@@ -1,8 +1,8 @@
 //! That no two fields of relocations share a byte (gABI "Relocation"), seen with a mark for each byte of
 //! their target, and not by each field against each.
 //!
-//! Fields that rise are seen to share none without any memory (rising_fields.rt); so are those of nearly all
-//! objects. Else the fields of a target are taken in turn, by section and entry. One that meets a mark shares a byte
+//! Fields that rise are seen to share none without any memory (rising_fields.rt); so are those of most objects.
+//! Else the fields of a target are taken in turn, by section and entry. One that meets a mark shares a byte
 //! with an earlier field, and is told; else its own bytes are marked. At the end the same fields are taken
 //! again, and their bytes are cleared, so that one row of marks serves all targets: the cost is two times
 //! eight steps a relocation, and once the size of the longest target.
@@ -20,7 +20,7 @@ ghost use Rattle.lk_obj_parts.specs.RelocationParts.{rows_fault};
 ghost use Rattle.lk_obj_parts.specs.TargetRows.{TargetsFit, list_checks, room_with};
 
 use crate::relocations::{code_of, entry_at, entry_count, width_of};
-use crate::rising_fields::rows_rise;
+use crate::rising_fields::{rows_rise, targets_rise};
 use crate::target_rows::{RowList, rows_by_target};
 use lk_elf::numbers::SHT_NOBITS;
 use lk_elf::{Ehdr, Shdr};
@@ -191,7 +191,8 @@ fn marked_overlap(
     requires fit { TargetsFit (elf_from bytes.now header.now sections.now []) }
     ensures { (symbols : List Sym) → IfOk result (λ r. r ≡ (let elf = elf_from bytes.now header.now sections.now symbols in first_fault (flat_map (λ (row : ℕ × Shdr). overlap_checks elf (is_piece_in elf row.0) row.0) (numbered sections.now)))) }
 {
-    let lists = rows_by_target(alloc, bytes, header, sections)?;
+    let rise = targets_rise(sections);
+    let lists = rows_by_target(alloc, bytes, header, sections, rise)?;
     let size = longest_target(sections, &lists);
     let Ok(mut marks) = Vec::from_elem(alloc, false, size) else {
         return Err(NoMemory);

@@ -15,6 +15,7 @@ targets_fault-requires-clause-fit c t a l =
     c.args.bytes.now
     c.args.header.now
     c.args.sections.now
+    c.targets_rise-rise.result
     c.deref-2.result.now
     c.longest_target-size.result
     c.requires.fit
@@ -33,6 +34,8 @@ returns c symbols =
     c.args.header.now
     c.args.sections.now
     symbols
+    c.targets_rise-rise.result
     c.deref-2.result.now
+    (λ e. sym c.targets_rise-rise.ensures ∙ e)
     (c.deref-2.ensures.len ∙ c.in_ok-lists.ensures.count)
     (λ u k. ap (λ (lists : List (List (ℕ × Shdr))). slice_index_or lists u []) c.deref-2.ensures.value ∙ c.in_ok-lists.ensures.rows u k)

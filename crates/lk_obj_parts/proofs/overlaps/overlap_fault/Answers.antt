@@ -1,5 +1,5 @@
 use Rattle.std.proofs.Common.{sym}
-use Rattle.lk_obj_parts.proofs.RisingFields.{rising_told}
+use Rattle.lk_obj_parts.proofs.OverlapsTold.{rising_told}
 use Rattle.lk_obj_parts.proofs.overlaps.overlap_fault.Goals as goal
 
 pub returns-then-rows_rise : goal.returns-then-rows_rise
