@@ -12,11 +12,11 @@
 //! on the clause of `tail`: for the records of a link the parts are lk_model's `tail_parts`.
 //!
 //! The records are gone over twice: the first walk (`noting`) fills the table of texts, the second (`putting`)
-//! writes the fields. A text's place and a piece's row are looked up by hash, so both are linear.
+//! writes the records, each as words of eight bytes (`words`) with one test for room. A text's place and a
+//! piece's row are looked up by hash, so both are linear.
 #![tactic(auto)]
 
 mod appending;
-mod fields;
 mod heads;
 mod input_heads;
 mod inputs_section;
@@ -29,6 +29,7 @@ mod tail_parts;
 #[cfg(test)]
 mod tests;
 mod text_table;
+mod words;
 
 pub use inputs_section::{InputsAndTexts, write_inputs};
 pub use tail_parts::{Tail, TailPart, section_names, tail};
