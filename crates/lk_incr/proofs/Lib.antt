@@ -2,5 +2,6 @@ pub mod Numbers
 pub mod TextTables
 pub mod RowsNoted
 pub mod Spelling
+pub mod WordsSpelled
 pub mod TextsNoted
 pub mod TailsMade

@@ -14,7 +14,7 @@ use Rattle.lk_model.specs.declared.records.Records.{Records}
 use Rattle.lk_model.specs.declared.summaries.Global.{Global}
 use Rattle.lk_model.specs.declared.summaries.Group.{Group}
 use Rattle.lk_model.specs.declared.summaries.PieceInfo.{PieceInfo}
-use Rattle.lk_incr.specs.FieldsTold.{group_head}
+use Rattle.lk_incr.specs.Words.{group_head}
 
 spelled-append : (off : List ℕ → ℕ) (xs ys : List Field) → spelled off (xs ++ ys) ≡ spelled off xs ++ spelled off ys
 unfolding spelled
@@ -30,23 +30,22 @@ unfolding spelled
 spelled-members off [] = refl
 spelled-members off (m ∷ ms) = ap (λ l. bytes_of 4 m ++ l) (spelled-members off ms)
 
-pub put_group : (off : List ℕ → ℕ) (g : Group) (hs : List Field) (ms a b c : List ℕ) → hs ≡ group_head g → ms ≡ g.members → b ≡ a ++ spelled off hs
+pub put_group : (off : List ℕ → ℕ) (g : Group) (ms a b c : List ℕ) → ms ≡ g.members → b ≡ a ++ spelled off (group_head g)
     → c ≡ b ++ flat_map (bytes_of 4) ms → c ≡ a ++ spelled off (group_fields g)
-put_group off g hs ms a b c is same first second =
-    then off (group_head g) (map Short g.members) a b c (first ∙ ap (λ l. a ++ spelled off l) is)
+put_group off g ms a b c same first second =
+    then off (group_head g) (map Short g.members) a b c first
     (second ∙ ap (λ l. b ++ flat_map (bytes_of 4) l) same ∙ ap (λ l. b ++ l) (sym (spelled-members off g.members)))
 
-pub put_input : (off : List ℕ → ℕ) (place : Placement) (n : ℕ) (i : InputRecord) (hs : List Field) (ps : List PieceInfo) (gs : List Global) (qs : List Group) (a b c d e : List ℕ)
-    → hs ≡ input_head i → ps ≡ i.summary.pieces → gs ≡ i.summary.globals → qs ≡ i.summary.groups → b ≡ a ++ spelled off hs
+pub put_input : (off : List ℕ → ℕ) (place : Placement) (n : ℕ) (i : InputRecord) (ps : List PieceInfo) (gs : List Global) (qs : List Group) (a b c d e : List ℕ)
+    → ps ≡ i.summary.pieces → gs ≡ i.summary.globals → qs ≡ i.summary.groups → b ≡ a ++ spelled off (input_head i)
     → c ≡ b ++ spelled off (flat_map (piece_fields place n) ps) → d ≡ c ++ spelled off (flat_map global_fields gs)
     → e ≡ d ++ spelled off (flat_map group_fields qs) → e ≡ a ++ spelled off (input_fields place (n, i))
-put_input off place n i hs ps gs qs a b c d e is pieces globals groups first second third last =
+put_input off place n i ps gs qs a b c d e pieces globals groups first second third last =
     let head : List Field = input_head i in
     let xs : List Field = flat_map (piece_fields place n) i.summary.pieces in
     let ys : List Field = flat_map global_fields i.summary.globals in
     let zs : List Field = flat_map group_fields i.summary.groups in
-    let one : b ≡ a ++ spelled off head = first ∙ ap (λ l. a ++ spelled off l) is in
-    let two = then off head xs a b c one (second ∙ ap (λ l. b ++ spelled off (flat_map (piece_fields place n) l)) pieces) in
+    let two = then off head xs a b c first (second ∙ ap (λ l. b ++ spelled off (flat_map (piece_fields place n) l)) pieces) in
     let three = then off (head ++ xs) ys a c d two (third ∙ ap (λ l. c ++ spelled off (flat_map global_fields l)) globals) in
     then off ((head ++ xs) ++ ys) zs a d e three (last ∙ ap (λ l. d ++ spelled off (flat_map group_fields l)) groups)
 
@@ -58,17 +57,16 @@ spelled_next off f xs n x within item =
     ap (λ l. spelled off (flat_map f (enumerate_from n l))) rest
     ∙ spelled-append off (f (n, x)) (flat_map f (enumerate_from (n + 1) (drop (n + 1) xs)))
 
-pub put_section : (off : List ℕ → ℕ) (r : Records) (place : Placement) (hs : List Field) (rows : List SectionRow) (inputs : List InputRecord) (a b c d : List ℕ)
-    → place ≡ r.placement → hs ≡ head_fields r → rows ≡ r.placement.sections → inputs ≡ r.inputs → b ≡ a ++ spelled off hs
+pub put_section : (off : List ℕ → ℕ) (r : Records) (place : Placement) (rows : List SectionRow) (inputs : List InputRecord) (a b c d : List ℕ)
+    → place ≡ r.placement → rows ≡ r.placement.sections → inputs ≡ r.inputs → b ≡ a ++ spelled off (head_fields r)
     → c ≡ b ++ spelled off (flat_map section_fields rows) → d ≡ c ++ spelled off (flat_map (input_fields place) (enumerate_from 0 inputs))
     → d ≡ a ++ spelled off (inputs_fields r)
 unfolding inputs_fields
-put_section off r place hs rows inputs a b c d at is same also first second third =
+put_section off r place rows inputs a b c d at same also first second third =
     let head : List Field = head_fields r in
     let xs : List Field = flat_map section_fields r.placement.sections in
     let ys : List Field = flat_map (input_fields r.placement) (enumerate_from 0 r.inputs) in
-    let one : b ≡ a ++ spelled off head = first ∙ ap (λ l. a ++ spelled off l) is in
-    let two = then off head xs a b c one (second ∙ ap (λ l. b ++ spelled off (flat_map section_fields l)) same) in
+    let two = then off head xs a b c first (second ∙ ap (λ l. b ++ spelled off (flat_map section_fields l)) same) in
     then off (head ++ xs) ys a c d two
     (third ∙ ap (λ p. c ++ spelled off (flat_map (input_fields p) (enumerate_from 0 inputs))) at
     ∙ ap (λ l. c ++ spelled off (flat_map (input_fields r.placement) (enumerate_from 0 l))) also)

@@ -1,4 +1,4 @@
-pub mod FieldsTold
+pub mod Words
 pub mod TextTables
 pub mod PlacedRows
 pub mod NotedTexts

@@ -23,16 +23,8 @@ pub(crate) fn put_short(out: &mut Vec<u8>, n: u64) -> Result<(), NoMemory>
     put_bytes(out, low_bytes(&bytes, n))
 }
 
-/// Puts a number of eight bytes at the end.
-pub(crate) fn put_long(out: &mut Vec<u8>, n: u64) -> Result<(), NoMemory>
-    ensures { OnOk result (out.new.items ≡ out.old.items ++ bytes_of 8 n) }
-{
-    let bytes = all_bytes(n);
-    put_bytes(out, &bytes)
-}
-
 /// All bytes of a number.
-fn all_bytes(n: u64) -> [u8; 8]
+pub(crate) fn all_bytes(n: u64) -> [u8; 8]
     ensures { result ≡ bytes_of 8 n }
 {
     n.to_le_bytes()

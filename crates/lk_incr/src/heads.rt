@@ -1,46 +1,74 @@
-//! The fields of the head of the inputs section, and those of an output section.
+//! The head of the inputs section, and the record of an output section.
 
-ghost use Rattle.std.specs.Prelude.{◌≡◌, ◌≤◌};
+ghost use Rattle.std.specs.Prelude.{◌≡◌, ◌≤◌, ◌++◌, OnOk};
 ghost use Rattle.lk_model.specs.InputsSection.{bit, head_fields, option_flags, section_fields};
+ghost use Rattle.lk_model.specs.RecordFields.{spelled};
 ghost use Rattle.lk_model.specs.SectionKeys.{class_number};
-ghost use Rattle.lk_incr.specs.FieldsTold.{fields_of};
+ghost use Rattle.lk_model.specs.Texts.{offset_in};
+ghost use Rattle.lk_incr.specs.Words.{words_of};
 
-use crate::fields::Field;
+use crate::text_table::TextTable;
+use crate::words::{Word, long, pair, put_words};
 use lk_model::layouts::{Class, SectionRow};
 use lk_model::records::Records;
-use lk_report::OptionRecord;
+use lk_report::{NoMemory, OptionRecord};
 
 /// The head, 32 bytes: the version, the options, and how many inputs and output sections follow.
-pub(crate) fn head_fields(records: &Records) -> [Field<'_>; 8]
-    ensures { fields_of result ≡ head_fields records.now }
+fn head_words(table: &TextTable<'_>, records: &Records) -> [Word; 4]
+    ensures { result ≡ words_of (offset_in table.now) (head_fields records.now) }
 {
     let options = &records.options;
+    let entry = table.offset(options.entry.as_slice());
+    let interp = table.offset(options.interp.as_slice());
+    let runpath = table.offset(options.runpath.as_slice());
+    let inputs = records.inputs.as_slice().len() as u64;
+    let sections = records.placement.sections.as_slice().len() as u64;
     [
-        Field::Short(records.version as u64),
-        Field::Short(option_flags(options)),
-        Field::Text(options.entry.as_slice()),
-        Field::Text(options.interp.as_slice()),
-        Field::Text(options.runpath.as_slice()),
-        Field::Short(options.patch as u64),
-        Field::Short(records.inputs.as_slice().len() as u64),
-        Field::Short(records.placement.sections.as_slice().len() as u64),
+        pair(records.version as u64, option_flags(options)),
+        pair(entry, interp),
+        pair(runpath, options.patch as u64),
+        pair(inputs, sections),
     ]
+}
+
+/// Puts the head at the end.
+pub(crate) fn put_head(
+    out: &mut Vec<u8>,
+    table: &TextTable<'_>,
+    records: &Records,
+) -> Result<(), NoMemory>
+    ensures { OnOk result (out.new.items ≡ out.old.items ++ spelled (offset_in table.now) (head_fields records.now)) }
+{
+    put_words(out, &head_words(table, records))?;
+    Ok(())
 }
 
 /// An output section, 48 bytes: its name and class, and its address, place in the file, size, room and
 /// alignment.
-pub(crate) fn section_fields(row: &SectionRow) -> [Field<'_>; 7]
-    ensures { fields_of result ≡ section_fields row.now }
+fn section_words(table: &TextTable<'_>, row: &SectionRow) -> [Word; 6]
+    ensures { result ≡ words_of (offset_in table.now) (section_fields row.now) }
 {
+    let name = table.offset(row.key.name.as_slice());
     [
-        Field::Text(row.key.name.as_slice()),
-        Field::Short(class_number(row.key.class)),
-        Field::Long(row.addr),
-        Field::Long(row.offset),
-        Field::Long(row.size),
-        Field::Long(row.room),
-        Field::Long(row.align),
+        pair(name, class_number(row.key.class)),
+        long(row.addr),
+        long(row.offset),
+        long(row.size),
+        long(row.room),
+        long(row.align),
     ]
+}
+
+/// Puts an output section at the end.
+pub(crate) fn put_section(
+    out: &mut Vec<u8>,
+    table: &TextTable<'_>,
+    row: &SectionRow,
+) -> Result<(), NoMemory>
+    ensures { OnOk result (out.new.items ≡ out.old.items ++ spelled (offset_in table.now) (section_fields row.now)) }
+{
+    put_words(out, &section_words(table, row))?;
+    Ok(())
 }
 
 /// The options as flags: 1 for a dynamic link, 2 where every definition is exported.

@@ -1,35 +1,50 @@
-//! The fields of the head of an input.
+//! The head of an input.
 
-ghost use Rattle.std.specs.Prelude.{◌≡◌};
+ghost use Rattle.std.specs.Prelude.{◌≡◌, ◌++◌, OnOk};
 ghost use Rattle.lk_elf.specs.Fields.{unsigned64};
 ghost use Rattle.lk_model.specs.InputsSection.{input_head, input_kind, stamp_flag, stamp_length, stamp_time};
-ghost use Rattle.lk_incr.specs.FieldsTold.{fields_of};
+ghost use Rattle.lk_model.specs.RecordFields.{spelled};
+ghost use Rattle.lk_model.specs.Texts.{offset_in};
+ghost use Rattle.lk_incr.specs.Words.{words_of};
 
-use crate::fields::Field;
 use crate::heads::bit;
+use crate::text_table::TextTable;
+use crate::words::{Word, long, pair, put_words};
 use lk_model::records::InputRecord;
 use lk_model::summaries::Kind;
-use lk_report::Stamp;
+use lk_report::{NoMemory, Stamp};
 
 /// The head of an input, 56 bytes: what it is, its stamp, and how many pieces, symbols and groups follow.
-pub(crate) fn input_head(input: &InputRecord) -> [Field<'_>; 12]
-    ensures { fields_of result ≡ input_head input.now }
+fn input_words(table: &TextTable<'_>, input: &InputRecord) -> [Word; 7]
+    ensures { result ≡ words_of (offset_in table.now) (input_head input.now) }
 {
     let summary = &input.summary;
+    let path = table.offset(input.path.as_slice());
+    let soname = table.offset(summary.soname.as_slice());
+    let pieces = summary.pieces.as_slice().len() as u64;
+    let globals = summary.globals.as_slice().len() as u64;
+    let groups = summary.groups.as_slice().len() as u64;
     [
-        Field::Text(input.path.as_slice()),
-        Field::Short(input.occurrence as u64),
-        Field::Short(input_kind(input)),
-        Field::Short(input.lib as u64),
-        Field::Short(stamp_flag(input.stamp)),
-        Field::Text(summary.soname.as_slice()),
-        Field::Long(stamp_length(input.stamp)),
-        Field::Long(stamp_time(input.stamp)),
-        Field::Short(summary.pieces.as_slice().len() as u64),
-        Field::Short(summary.globals.as_slice().len() as u64),
-        Field::Short(summary.groups.as_slice().len() as u64),
-        Field::Short(bit(summary.exec_stack)),
+        pair(path, input.occurrence as u64),
+        pair(input_kind(input), input.lib as u64),
+        pair(stamp_flag(input.stamp), soname),
+        long(stamp_length(input.stamp)),
+        long(stamp_time(input.stamp)),
+        pair(pieces, globals),
+        pair(groups, bit(summary.exec_stack)),
     ]
+}
+
+/// Puts the head of an input at the end.
+pub(crate) fn put_input_head(
+    out: &mut Vec<u8>,
+    table: &TextTable<'_>,
+    input: &InputRecord,
+) -> Result<(), NoMemory>
+    ensures { OnOk result (out.new.items ≡ out.old.items ++ spelled (offset_in table.now) (input_head input.now)) }
+{
+    put_words(out, &input_words(table, input))?;
+    Ok(())
 }
 
 /// The kind of an input: 1 an object outside a lib group, 2 a lib member that was added, 3 one that was

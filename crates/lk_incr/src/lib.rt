@@ -12,11 +12,11 @@
 //! on the clause of `tail`: for the records of a link the parts are lk_model's `tail_parts`.
 //!
 //! The records are gone over twice: the first walk (`noting`) fills the table of texts, the second (`putting`)
-//! writes the fields. A text's place and a piece's row are looked up by hash, so both are linear.
+//! writes the records, each as words of eight bytes (`words`) with one test for room. A text's place and a
+//! piece's row are looked up by hash, so both are linear.
 #![tactic(auto)]
 
 mod appending;
-mod fields;
 mod heads;
 mod input_heads;
 mod inputs_section;
@@ -27,6 +27,7 @@ mod putting;
 mod summaries;
 mod tail_parts;
 mod text_table;
+mod words;
 
 pub use inputs_section::{InputsAndTexts, write_inputs};
 pub use tail_parts::{Tail, TailPart, section_names, tail};

@@ -1,37 +1,55 @@
-//! The fields of a piece of an input.
+//! The record of a piece of an input.
 
-ghost use Rattle.std.specs.Prelude.{◌≡◌};
+ghost use Rattle.std.specs.Prelude.{◌≡◌, ◌++◌, OnOk};
 ghost use Rattle.lk_model.specs.InputsSection.{piece_address, piece_fields, piece_flags, piece_section};
-ghost use Rattle.lk_incr.specs.FieldsTold.{fields_of};
+ghost use Rattle.lk_model.specs.RecordFields.{spelled};
+ghost use Rattle.lk_model.specs.Texts.{offset_in};
+ghost use Rattle.lk_incr.specs.Words.{words_of};
 
-use crate::fields::Field;
 use crate::heads::{bit, class_number};
 use crate::placed_pieces::PlacedPieces;
+use crate::text_table::TextTable;
+use crate::words::{Word, long, pair, put_words};
 use lk_model::layouts::PieceRow;
 use lk_model::summaries::PieceInfo;
+use lk_report::NoMemory;
 
 /// What stands for the output section of a piece that is not kept.
 const NO_SECTION: u64 = 0xffff_ffff;
 
 /// A piece of the input with this number, 40 bytes: its section, its output section and address where it
 /// is kept, its size, alignment and name, and its flags.
-pub(crate) fn piece_fields<'p>(
+fn piece_words(
+    table: &TextTable<'_>,
     placed: &PlacedPieces<'_>,
     input: u64,
-    piece: &'p PieceInfo,
-) -> [Field<'p>; 7]
-    ensures { fields_of result ≡ piece_fields placed.now input piece.now }
+    piece: &PieceInfo,
+) -> [Word; 5]
+    ensures { result ≡ words_of (offset_in table.now) (piece_fields placed.now input piece.now) }
 {
     let row = placed.row(input, piece.section);
+    let name = table.offset(piece.name.as_slice());
     [
-        Field::Short(piece.section as u64),
-        Field::Short(piece_section(row)),
-        Field::Long(piece_address(row)),
-        Field::Long(piece.size),
-        Field::Long(piece.align),
-        Field::Text(piece.name.as_slice()),
-        Field::Short(piece_flags(piece, row)),
+        pair(piece.section as u64, piece_section(row)),
+        long(piece_address(row)),
+        long(piece.size),
+        long(piece.align),
+        pair(name, piece_flags(piece, row)),
     ]
+}
+
+/// Puts a piece of the input with this number at the end.
+pub(crate) fn put_piece(
+    out: &mut Vec<u8>,
+    table: &TextTable<'_>,
+    placed: &PlacedPieces<'_>,
+    input: u64,
+    piece: &PieceInfo,
+) -> Result<(), NoMemory>
+    ensures { OnOk result (out.new.items ≡ out.old.items ++ spelled (offset_in table.now) (piece_fields placed.now input piece.now)) }
+{
+    put_words(out, &piece_words(table, placed, input, piece))?;
+    Ok(())
 }
 
 /// The number of a piece's output section.

@@ -9,12 +9,11 @@ ghost use Rattle.lk_model.specs.RecordFields.{spelled};
 ghost use Rattle.lk_model.specs.Texts.{offset_in};
 
 use crate::appending::put_short;
-use crate::fields::put_fields;
-use crate::heads::{head_fields, section_fields};
-use crate::input_heads::input_head;
-use crate::pieces::piece_fields;
+use crate::heads::{put_head, put_section};
+use crate::input_heads::put_input_head;
+use crate::pieces::put_piece;
 use crate::placed_pieces::PlacedPieces;
-use crate::summaries::{global_fields, group_head};
+use crate::summaries::{put_global, put_group_head};
 use crate::text_table::TextTable;
 use lk_model::layouts::SectionRow;
 use lk_model::records::{InputRecord, Records};
@@ -31,7 +30,7 @@ fn put_sections(
     ensures { OnOk result (out.new.items ≡ out.old.items ++ spelled (offset_in table.now) (flat_map section_fields rows.now)) }
 {
     for row in rows {
-        put_fields(out, table, &section_fields(row))?;
+        put_section(out, table, row)?;
     }
     Ok(())
 }
@@ -48,7 +47,7 @@ fn put_pieces(
     ensures { OnOk result (out.new.items ≡ out.old.items ++ spelled (offset_in table.now) (flat_map (piece_fields placed.now input) pieces.now)) }
 {
     for piece in pieces {
-        put_fields(out, table, &piece_fields(placed, input, piece))?;
+        put_piece(out, table, placed, input, piece)?;
     }
     Ok(())
 }
@@ -59,7 +58,7 @@ fn put_globals(out: &mut Vec<u8>, table: &TextTable<'_>, globals: &[Global]) -> 
     ensures { OnOk result (out.new.items ≡ out.old.items ++ spelled (offset_in table.now) (flat_map global_fields globals.now)) }
 {
     for global in globals {
-        put_fields(out, table, &global_fields(global))?;
+        put_global(out, table, global)?;
     }
     Ok(())
 }
@@ -78,7 +77,7 @@ fn put_members(out: &mut Vec<u8>, members: &[u32]) -> Result<(), NoMemory>
 fn put_group(out: &mut Vec<u8>, table: &TextTable<'_>, group: &Group) -> Result<(), NoMemory>
     ensures { OnOk result (out.new.items ≡ out.old.items ++ spelled (offset_in table.now) (group_fields group.now)) }
 {
-    put_fields(out, table, &group_head(group))?;
+    put_group_head(out, table, group)?;
     put_members(out, group.members.as_slice())?;
     Ok(())
 }
@@ -105,7 +104,7 @@ fn put_input(
     ensures { OnOk result (out.new.items ≡ out.old.items ++ spelled (offset_in table.now) (input_fields placed.now (number, input.now))) }
 {
     let summary = &input.summary;
-    put_fields(out, table, &input_head(input))?;
+    put_input_head(out, table, input)?;
     put_pieces(out, table, placed, number, summary.pieces.as_slice())?;
     put_globals(out, table, summary.globals.as_slice())?;
     put_groups(out, table, summary.groups.as_slice())?;
@@ -137,7 +136,7 @@ pub(crate) fn put_inputs_section(
     requires { placed.now ≡ records.now.placement }
     ensures { OnOk result (out.new.items ≡ out.old.items ++ spelled (offset_in table.now) (inputs_fields records.now)) }
 {
-    put_fields(out, table, &head_fields(records))?;
+    put_head(out, table, records)?;
     put_sections(out, table, records.placement.sections.as_slice())?;
     put_inputs(out, table, placed, records.inputs.as_slice())?;
     Ok(())

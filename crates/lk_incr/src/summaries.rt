@@ -1,27 +1,44 @@
-//! The fields of a symbol of an input, and those of a COMDAT group before its members.
+//! The record of a symbol of an input, and that of a COMDAT group before its members.
 
-ghost use Rattle.std.specs.Prelude.{◌≡◌, ◌+◌, ◌*◌};
+ghost use Rattle.std.specs.Prelude.{◌≡◌, ◌+◌, ◌*◌, ◌++◌, OnOk};
 ghost use Rattle.lk_model.specs.InputsSection.{global_fields, home_number, home_section};
-ghost use Rattle.lk_incr.specs.FieldsTold.{fields_of, group_head};
+ghost use Rattle.lk_model.specs.RecordFields.{spelled};
+ghost use Rattle.lk_model.specs.Texts.{offset_in};
+ghost use Rattle.lk_incr.specs.Words.{group_head, words_of};
 
-use crate::fields::Field;
+use crate::text_table::TextTable;
+use crate::words::{Word, long, pair, put_words};
 use lk_model::summaries::{Global, Group, Home};
+use lk_report::NoMemory;
 
 /// A symbol that is not LOCAL, 40 bytes: its name, binding, type and visibility, where it is defined, its
 /// value and size, and its number.
-pub(crate) fn global_fields(global: &Global) -> [Field<'_>; 8]
-    ensures { fields_of result ≡ global_fields global.now }
+fn global_words(table: &TextTable<'_>, global: &Global) -> [Word; 5]
+    ensures { result ≡ words_of (offset_in table.now) (global_fields global.now) }
 {
+    let name = table.offset(global.name.as_slice());
     [
-        Field::Text(global.name.as_slice()),
-        Field::Short(properties(global.binding, global.code, global.visibility)),
-        Field::Short(home_number(global.home)),
-        Field::Short(home_section(global.home)),
-        Field::Long(global.value),
-        Field::Long(global.size),
-        Field::Short(global.symbol as u64),
-        Field::Short(0),
+        pair(
+            name,
+            properties(global.binding, global.code, global.visibility),
+        ),
+        pair(home_number(global.home), home_section(global.home)),
+        long(global.value),
+        long(global.size),
+        pair(global.symbol as u64, 0),
     ]
+}
+
+/// Puts a symbol at the end.
+pub(crate) fn put_global(
+    out: &mut Vec<u8>,
+    table: &TextTable<'_>,
+    global: &Global,
+) -> Result<(), NoMemory>
+    ensures { OnOk result (out.new.items ≡ out.old.items ++ spelled (offset_in table.now) (global_fields global.now)) }
+{
+    put_words(out, &global_words(table, global))?;
+    Ok(())
 }
 
 /// The binding, the type and the visibility of a symbol in one number.
@@ -54,12 +71,22 @@ fn home_section(home: Home) -> u64
     }
 }
 
-/// A group before its members: its signature, and how many members follow.
-pub(crate) fn group_head(group: &Group) -> [Field<'_>; 2]
-    ensures { fields_of result ≡ group_head group.now }
+/// A group before its members, 8 bytes: its signature, and how many members follow.
+fn group_words(table: &TextTable<'_>, group: &Group) -> [Word; 1]
+    ensures { result ≡ words_of (offset_in table.now) (group_head group.now) }
 {
-    [
-        Field::Text(group.signature.as_slice()),
-        Field::Short(group.members.as_slice().len() as u64),
-    ]
+    let signature = table.offset(group.signature.as_slice());
+    [pair(signature, group.members.as_slice().len() as u64)]
+}
+
+/// Puts a group before its members at the end.
+pub(crate) fn put_group_head(
+    out: &mut Vec<u8>,
+    table: &TextTable<'_>,
+    group: &Group,
+) -> Result<(), NoMemory>
+    ensures { OnOk result (out.new.items ≡ out.old.items ++ spelled (offset_in table.now) (group_head group.now)) }
+{
+    put_words(out, &group_words(table, group))?;
+    Ok(())
 }
