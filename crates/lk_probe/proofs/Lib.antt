@@ -1,3 +1,4 @@
 pub mod FirstHeaders
 pub mod InputsPlaced
 pub mod CommandPlaced
+pub mod TextSaid

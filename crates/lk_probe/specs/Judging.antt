@@ -5,6 +5,7 @@ use Rattle.std.specs.Prelude.{◌≡◌, ◌<◌, ◌≤◌, ℕ, ◌^◌, List,
 use Rattle.lk_elf.specs.Numbers.{sht_symtab}
 use Rattle.lk_elf.specs.Records.{ehdr_at}
 use Rattle.lk_elf.specs.declared.section_header.Shdr.{Shdr}
+use Rattle.lk_report.specs.declared.statuses.LimitKind.TheVariants as limit
 use Rattle.lk_model.specs.Elf.{first_of_type, section_headers_of, symbols_of}
 use Rattle.lk_model.specs.ObjectChecks.{object_fault}
 use Rattle.lk_probe.specs.declared.reading.Verdict.{Verdict}
@@ -26,5 +27,5 @@ abbrev pub IsJudged : List ℕ → Verdict → Type 0
 IsJudged bytes (verdict.Object sections symbols) =
     (length bytes ≤ 2 ^ 26) × (object_fault bytes ≡ None) × (sections ≡ length (headers_in bytes)) × (symbols ≡ symbol_count bytes)
 IsJudged bytes (verdict.Faulty fault) = (length bytes ≤ 2 ^ 26) × (object_fault bytes ≡ Some fault)
-IsJudged bytes (verdict.TooLong limit) = (2 ^ 26 < length bytes) × (limit.number ≡ length bytes)
+IsJudged bytes (verdict.TooLong fault) = (2 ^ 26 < length bytes) × (fault ≡ record { which = limit.InputSize; number = length bytes })
 IsJudged bytes verdict.NoMemory = Unit {0}

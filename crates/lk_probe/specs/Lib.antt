@@ -2,3 +2,6 @@ pub mod Judging
 pub mod Telling
 pub mod Laying
 pub mod Rows
+pub mod Asking
+pub mod FileTexts
+pub mod Answering

@@ -1,5 +1,9 @@
 //! What the program's arguments ask for.
 
+ghost use Rattle.std.specs.Prelude.{◌≡◌, IfOk, map, drop, string_bytes};
+ghost use Rattle.std.specs.Vec.Iter.{into_iter_items};
+ghost use Rattle.lk_probe.specs.Asking.{asked_in, file_asked};
+
 use lk_report::{List, Name, NameList, NoMemory};
 use std::alloc::Global;
 use std::env::Args;
@@ -13,34 +17,38 @@ pub enum Asked {
     Resolve(NameList),
     /// Where a link of these words, made anew, puts everything.
     Layout(NameList),
-    /// Nothing that the program knows.
-    Other,
 }
 
-/// What the arguments after the program's name ask for.
-pub fn what_is_asked(alloc: Global, mut all: Args) -> Result<Asked, NoMemory> {
+/// What the arguments after the program's name ask for, where the program knows it.
+pub fn what_is_asked(alloc: Global, mut all: Args) -> Result<Option<Asked>, NoMemory>
+    ensures { IfOk result (λ asked. asked ≡ asked_in (map string_bytes (drop 1 (into_iter_items all)))) }
+{
     let _program = all.next();
     let Some(word) = all.next() else {
-        return Ok(Asked::Other);
+        return Ok(None);
     };
     match word.as_str() {
         "read" => Ok(asked_file(all)),
-        "resolve" => Ok(Asked::Resolve(words_of(alloc, all)?)),
-        "layout" => Ok(Asked::Layout(words_of(alloc, all)?)),
-        _ => Ok(Asked::Other),
+        "resolve" => Ok(Some(Asked::Resolve(words_of(alloc, all)?))),
+        "layout" => Ok(Some(Asked::Layout(words_of(alloc, all)?))),
+        _ => Ok(None),
     }
 }
 
-/// The one file that is left to be named.
-fn asked_file(mut all: Args) -> Asked {
+/// The file that is to be read, where exactly one argument is left, which names it.
+fn asked_file(mut all: Args) -> Option<Asked>
+    ensures { result ≡ file_asked (map string_bytes (into_iter_items all)) }
+{
     match all.next() {
-        Some(file) if all.next().is_none() => Asked::Read(Name::from_vec(file.into_bytes())),
-        _ => Asked::Other,
+        Some(file) if all.next().is_none() => Some(Asked::Read(Name::from_vec(file.into_bytes()))),
+        _ => None,
     }
 }
 
 /// The arguments that are left.
-fn words_of(alloc: Global, all: Args) -> Result<NameList, NoMemory> {
+fn words_of(alloc: Global, all: Args) -> Result<NameList, NoMemory>
+    ensures { IfOk result (λ words. words ≡ map string_bytes (into_iter_items all)) }
+{
     let mut words = List::new(alloc);
     for argument in all {
         words.push(Name::from_vec(argument.into_bytes()))?;

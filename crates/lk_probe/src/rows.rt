@@ -2,7 +2,7 @@
 
 ghost use Rattle.std.specs.Prelude.{◌≡◌, ◌++◌, IfOk, OnOk, Some};
 ghost use Rattle.lk_report.specs.FileMap.{FileMap};
-ghost use Rattle.lk_passes.specs.Told.{map_told};
+ghost use Rattle.lk_passes.specs.Told.{StatusCounts, map_told};
 ghost use Rattle.lk_probe.specs.Rows.{TellsPlaces, class_text, field_text, fields_text, key_text, placement_text, row_line};
 ghost use Rattle.std.specs.Prelude.{flat_map};
 
@@ -98,7 +98,8 @@ pub fn places_told<F: Files>(
     words: &NameList,
     files: &mut F,
 ) -> Result<Bytes, Status>
-    ensures { (there : FileMap) → map_told (F.held files.old) ≡ Some there → TellsPlaces words.now there result }
+    ensures told { (there : FileMap) → map_told (F.held files.old) ≡ Some there → TellsPlaces words.now there result }
+    ensures faults { StatusCounts (F.held files.old) result (F.held files.new) }
 {
     let placement = lay_out(alloc, words, files)?;
     match text_of(alloc, &placement) {

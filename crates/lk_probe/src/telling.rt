@@ -2,7 +2,7 @@
 
 ghost use Rattle.std.specs.Prelude.{◌≡◌, [], ◌++◌, get_or, length, IfOk, OnOk, Some};
 ghost use Rattle.lk_report.specs.FileMap.{FileMap};
-ghost use Rattle.lk_passes.specs.Told.{map_told};
+ghost use Rattle.lk_passes.specs.Told.{StatusCounts, map_told};
 ghost use Rattle.lk_probe.specs.Telling.{Tells, added_line, added_lines, resolution_text};
 
 use crate::writing::{put, put_number};
@@ -69,7 +69,8 @@ fn text_of(alloc: Global, resolution: &Resolution) -> Result<Bytes, NoMemory>
 /// # Errors
 /// Those of `resolve_words`.
 pub fn told<F: Files>(alloc: Global, words: &NameList, files: &mut F) -> Result<Bytes, Status>
-    ensures { (there : FileMap) → map_told (F.held files.old) ≡ Some there → Tells words.now there result }
+    ensures told { (there : FileMap) → map_told (F.held files.old) ≡ Some there → Tells words.now there result }
+    ensures faults { StatusCounts (F.held files.old) result (F.held files.new) }
 {
     let resolution = resolve_words(alloc, words, files)?;
     match text_of(alloc, &resolution) {

@@ -1,0 +1,50 @@
+-- What is said of the file of a path (this project's own): of an object the numbers of its section headers and
+-- of the entries of its symbol table; its first fault, or its length, as the linker tells them; that there is
+-- no file.
+use Rattle.std.specs.Prelude.{◌≡◌, ◌<◌, ◌≤◌, ℕ, ◌^◌, List, [], ◌∷◌, ◌++◌, codes, length, Some, None, option_map, Result, Ok, Err}
+use Rattle.std.specs.Fmt.{decimal}
+use Rattle.lk_report.specs.FileMap.{FileMap}
+use Rattle.lk_report.specs.declared.faults.Fault.{Fault}
+use Rattle.lk_report.specs.declared.faults.Fault.TheVariants as fault
+use Rattle.lk_report.specs.declared.statuses.LimitKind.TheVariants as limit
+use Rattle.lk_report.specs.declared.statuses.Status.{Status}
+use Rattle.lk_report.specs.declared.statuses.Status.TheVariants as status
+use Rattle.lk_model.specs.ObjectChecks.{object_fault}
+use Rattle.lk_passes.specs.Told.{content_at}
+use Rattle.lk_probe.specs.Judging.{headers_in, symbol_count}
+
+-- what is said of an object
+abbrev pub object_text : ℕ → ℕ → List ℕ
+object_text sections symbols = codes "object: " ++ decimal sections ++ codes " sections, " ++ decimal symbols ++ codes " symbols\n"
+
+-- a text is said, for which want of memory may stand
+abbrev pub IsText : List ℕ → Result (List ℕ) Status → Type 0
+IsText due (Ok text) = text ≡ due
+IsText due (Err status.NoMemory) = Unit {0}
+IsText due (Err _) = ⊥
+
+-- one fault is told, for which want of memory may stand
+abbrev pub IsOneFault : Fault → Status → Type 0
+IsOneFault due (status.LinkError faults) = faults ≡ due ∷ []
+IsOneFault due status.NoMemory = Unit {0}
+IsOneFault due _ = ⊥
+
+-- what is said of a file of these bytes; its faults, where it has one, are those of its first one
+abbrev pub TellsBytes : List ℕ → List ℕ → Result (List ℕ) Status → Type 0
+TellsBytes path bytes (Ok text) =
+    (length bytes ≤ 2 ^ 26) × (object_fault bytes ≡ None) × (text ≡ object_text (length (headers_in bytes)) (symbol_count bytes))
+TellsBytes path bytes (Err (status.LinkError faults)) =
+    (length bytes ≤ 2 ^ 26) × (option_map (λ first. fault.Input path first ∷ []) (object_fault bytes) ≡ Some faults)
+TellsBytes path bytes (Err (status.Limit exceeded)) =
+    (2 ^ 26 < length bytes) × (exceeded ≡ record { which = limit.InputSize; number = length bytes })
+TellsBytes path bytes (Err status.NoMemory) = Unit {0}
+TellsBytes path bytes (Err _) = ⊥
+
+-- what is said of a path by the map of the files: a read that failed may stand in its place
+abbrev pub TellsFile : List ℕ → FileMap → Result (List ℕ) Status → Type 0
+TellsFile path there (Ok text) = (bytes : List ℕ) × (content_at there path ≡ Some bytes) × TellsBytes path bytes (Ok text)
+TellsFile path there (Err (status.LinkError faults)) =
+    elim (content_at there path) [ Some bytes ↦ TellsBytes path bytes (Err (status.LinkError faults)) | None ↦ faults ≡ fault.Missing path ∷ [] ]
+TellsFile path there (Err (status.ReadFault failed)) = failed ≡ path
+TellsFile path there (Err status.NoMemory) = Unit {0}
+TellsFile path there (Err s) = (bytes : List ℕ) × (content_at there path ≡ Some bytes) × TellsBytes path bytes (Err s)

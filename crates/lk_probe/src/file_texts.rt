@@ -1,0 +1,76 @@
+//! The text of what the file of a path is.
+
+ghost use Rattle.std.specs.Prelude.{◌≡◌, IfOk, Some};
+ghost use Rattle.lk_report.specs.FileMap.{FileMap};
+ghost use Rattle.lk_passes.specs.Told.{StatusCounts, map_told};
+ghost use Rattle.lk_probe.specs.FileTexts.{IsOneFault, IsText, TellsBytes, TellsFile, object_text};
+
+use crate::reading::{Verdict, judged};
+use crate::writing::{put, put_number};
+use lk_outside::{Files, ReadAnswer};
+use lk_report::{Bytes, Fault, List, Name, NoMemory, Status};
+use std::alloc::Global;
+
+/// What is said of an object with so many section headers and entries of its symbol table.
+fn object_text(alloc: Global, sections: usize, symbols: usize) -> Result<Bytes, NoMemory>
+    ensures { IfOk result (λ text. text ≡ object_text sections symbols) }
+{
+    let mut text = Vec::new(alloc);
+    put(&mut text, b"object: ")?;
+    put_number(alloc, &mut text, sections)?;
+    put(&mut text, b" sections, ")?;
+    put_number(alloc, &mut text, symbols)?;
+    put(&mut text, b" symbols\n")?;
+    Ok(Bytes::from_vec(text))
+}
+
+/// The same, or want of memory as a status.
+fn object_told(alloc: Global, sections: usize, symbols: usize) -> Result<Bytes, Status>
+    ensures { IsText (object_text sections symbols) result }
+{
+    match object_text(alloc, sections, symbols) {
+        Ok(text) => Ok(text),
+        Err(NoMemory) => Err(Status::NoMemory),
+    }
+}
+
+/// The status of one fault.
+fn one_fault(alloc: Global, fault: Fault) -> Status
+    ensures { IsOneFault fault result }
+{
+    let mut faults = List::new(alloc);
+    match faults.push(fault) {
+        Ok(()) => Status::LinkError(faults),
+        Err(NoMemory) => Status::NoMemory,
+    }
+}
+
+/// What is said of a file of these bytes, or the status that is told in its place.
+fn bytes_told(alloc: Global, path: Name, bytes: &[u8]) -> Result<Bytes, Status>
+    ensures { TellsBytes path bytes.now result }
+{
+    match judged(alloc, bytes) {
+        Verdict::Object { sections, symbols } => object_told(alloc, sections, symbols),
+        Verdict::Faulty(fault) => Err(one_fault(alloc, Fault::Input { path, fault })),
+        Verdict::TooLong(limit) => Err(Status::Limit(limit)),
+        Verdict::NoMemory => Err(Status::NoMemory),
+    }
+}
+
+/// What is said of the file of a path, or the status that is told in its place.
+///
+/// # Errors
+/// A file that is not there; a read that failed; a file that is longer than an object may be; its first fault;
+/// want of memory.
+#[tactic(auto, using(lk_passes::proofs::CallsTold::read_tells, lk_passes::proofs::CallsTold::read_counts))]
+pub fn file_told<F: Files>(alloc: Global, path: Name, files: &mut F) -> Result<Bytes, Status>
+    ensures told { (there : FileMap) → map_told (F.held files.old) ≡ Some there → TellsFile path there result }
+    ensures faults { StatusCounts (F.held files.old) result (F.held files.new) }
+{
+    match files.read(&path) {
+        ReadAnswer::Got(bytes) => bytes_told(alloc, path, bytes.as_slice()),
+        ReadAnswer::Absent => Err(one_fault(alloc, Fault::Missing { path })),
+        ReadAnswer::Failed => Err(Status::ReadFault(path)),
+        ReadAnswer::NoMemory => Err(Status::NoMemory),
+    }
+}
