@@ -200,7 +200,7 @@ fn local_symbols_are_told_by_number(rt: HostRuntime) -> Result<(), ReadFailure> 
 }
 
 /// Why these bytes give no object, where they give none.
-fn failure(alloc: Global, bytes: &[u8]) -> Option<ReadFailure>
+pub fn failure(alloc: Global, bytes: &[u8]) -> Option<ReadFailure>
     requires { length bytes.now ≤ 24 * 2 ^ 32 }
 {
     match read(alloc, bytes) {

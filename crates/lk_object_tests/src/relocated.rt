@@ -1,10 +1,10 @@
 //! Which sections are told to have relocations, and in which order those of several sections stand.
 
-use crate::objects::{OBJECT, RELOCATIONS, read};
+use crate::objects::{OBJECT, RELOCATIONS, failure, read};
 use lk_elf::numbers::{SHF_ALLOC, SHF_EXECINSTR, SHT_NULL, SHT_PROGBITS, SHT_RELA};
 use lk_elf::{Rela, Shdr};
 use lk_obj_read::{ReadFailure, relocated_sections};
-use lk_report::NoMemory;
+use lk_report::{InputFault, NoMemory};
 
 /// A section of this type with this target and these bytes of the file.
 fn section(sh_type: u32, sh_info: u32, sh_offset: u64, sh_size: u64) -> Shdr {
@@ -56,16 +56,16 @@ const fn none(r_offset: u64) -> Rela {
     }
 }
 
-/// The object with the entries 8 and 9 of section 2 at the file's end, those that it had in section 6, and
-/// code without relocations in section 7.
-fn two_lists() -> [u8; 816] {
+/// The object with the entries 8 and 9 of section 2 at the file's end, those that it had in section 6, which
+/// are for this target, and code without relocations in section 7.
+fn two_lists(target: u32) -> [u8; 816] {
     let mut bytes = [0u8; 816];
     bytes[..640].copy_from_slice(&OBJECT);
     bytes[SECTION_COUNT] = 8;
     bytes[RELOCATIONS_PLACE..RELOCATIONS_PLACE + 8].copy_from_slice(&768u64.to_le_bytes());
     let list = Shdr {
         sh_link: 3,
-        ..section(SHT_RELA, 1, 80, 48)
+        ..section(SHT_RELA, target, 80, 48)
     };
     list.write_at(&mut bytes, 640);
     let code = Shdr {
@@ -80,7 +80,7 @@ fn two_lists() -> [u8; 816] {
 
 #[test]
 fn entries_stand_by_section_and_entry(rt: HostRuntime) -> Result<(), ReadFailure> {
-    let object = read(rt.alloc(), &two_lists())?;
+    let object = read(rt.alloc(), &two_lists(1))?;
     let listed = [none(8), none(9), RELOCATIONS[0], RELOCATIONS[1]];
     let pieces = object.summary().pieces.as_slice();
     assert_eq!(rt; pieces.len(), 2);
@@ -89,4 +89,13 @@ fn entries_stand_by_section_and_entry(rt: HostRuntime) -> Result<(), ReadFailure
         assert_eq!(rt; object.relocations(piece.section).as_slice(), wanted);
     }
     Ok(())
+}
+
+#[test]
+fn entries_without_a_target_are_told(rt: HostRuntime) {
+    let fault = InputFault::BadTable(6);
+    assert_eq!(rt;
+        failure(rt.alloc(), &two_lists(8)),
+        Some(ReadFailure::Input(fault))
+    );
 }
