@@ -5,6 +5,10 @@ pub mod StatesGoOn
 pub mod WantedNames
 pub mod SearchesGoOn
 pub mod Passes
+pub mod DefinersNoted
+pub mod NewlyWanted
+pub mod TurnsTaken
+pub mod NameSearched
 pub mod InputsAdded
 pub mod ResolverSteps
 pub mod RowsMade

@@ -28,7 +28,7 @@ and_false true = refl
 and_false false = refl
 
 -- a section is among those of pieces that are not dropped where it is one of a piece and not dropped
-without-any : (gone_from : List ℕ) (pieces : List PieceInfo) (s : ℕ) → is_number_in (sections_without gone_from pieces) s ≡ (list_any (λ (p : PieceInfo). p.section == s) pieces && not (is_number_in gone_from s))
+pub without-any : (gone_from : List ℕ) (pieces : List PieceInfo) (s : ℕ) → is_number_in (sections_without gone_from pieces) s ≡ (list_any (λ (p : PieceInfo). p.section == s) pieces && not (is_number_in gone_from s))
 without-any gone_from [] s = refl
 without-any gone_from (p ∷ ps) s =
     by (is_number_in gone_from p.section) (nat_eq s p.section) refl refl (without-any gone_from ps s)

@@ -1,7 +1,10 @@
 pub mod LeftSections
 pub mod States
 pub mod Wanted
+pub mod Turns
+pub mod Definers
 pub mod Searches
+pub mod NameSearches
 pub mod MadeRows
 pub mod RowFaults
 pub mod Settling

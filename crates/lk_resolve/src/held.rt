@@ -5,7 +5,7 @@ ghost use Rattle.std.specs.Prelude.{◌≡◌, [], cond, length, IfOk, OnOk};
 ghost use Rattle.lk_resolve.specs.RowFaults.{faults_in};
 ghost use Rattle.lk_resolve.specs.Settling.{resolved, settled_rows};
 ghost use Rattle.lk_resolve.specs.States.{is_shared, state_of, with_input, with_left};
-ghost use Rattle.lk_resolve.specs.Wanted.{wants};
+ghost use Rattle.lk_resolve.specs.Wanted.{places_wanted, wants, wants_name};
 
 use crate::definition_faults::faults_of;
 use crate::input_symbols::add_symbols;
@@ -14,10 +14,10 @@ use crate::made_names::make_names;
 use crate::resolution::Resolution;
 use crate::section_places::SectionPlace;
 use crate::section_sets::{Sections, claim_input};
-use crate::wanted_names::{defines_wanted, places_wanted};
+use crate::wanted_names::{defines_wanted, is_wanted, places_wanted};
 use indexmap::IndexSet;
 use lk_comdat::Groups;
-use lk_model::summaries::{InputSummary, Kind, NumberList};
+use lk_model::summaries::{Global as Symbol, InputSummary, Kind, NumberList};
 use lk_report::{FaultList, List, Name, NameList, NoMemory};
 use lk_symtab::SymTab;
 use std::alloc::Global;
@@ -112,6 +112,21 @@ impl Held {
         }
         self.claims.forget_after(claimed);
         Ok(false)
+    }
+
+    /// Whether a name is wanted.
+    pub fn is_wanted(&self, name: &Name) -> bool
+        ensures { result ≡ wants_name self.now.entry self.now.rows name.now }
+    {
+        is_wanted(&self.entry, &self.names, name)
+    }
+
+    /// Whether some symbol with a place has a wanted name: where none has, an input with these symbols is not
+    /// wanted.
+    pub fn places_wanted(&self, symbols: &[Symbol]) -> bool
+        ensures { result ≡ places_wanted self.now.entry self.now.rows symbols.now }
+    {
+        places_wanted(&self.entry, &self.names, symbols)
     }
 
     /// The number of names.

@@ -8,15 +8,18 @@
 //! `found_of` of exactly these (`SettleGives` of specs/Settling.antt).
 //!
 //! Each name and signature is looked up by hash, and each contribution is looked at a fixed number of times;
-//! a lib group costs one look at its waiting members for each pass that adds one.
+//! a lib group costs up to three looks at its members, and after these one more at each and one for each name
+//! that became wanted at those that define it.
 #![tactic(auto)]
 
+mod definers;
 mod definition_faults;
 mod held;
 mod input_symbols;
 mod kept_sections;
 mod made_names;
 mod members;
+mod name_searches;
 mod resolution;
 mod resolver;
 mod searches;
@@ -24,6 +27,7 @@ mod section_places;
 mod section_sets;
 mod settle_faults;
 mod settling;
+mod turns;
 mod wanted_names;
 
 pub use resolution::Resolution;

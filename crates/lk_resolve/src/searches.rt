@@ -1,14 +1,19 @@
 //! The search round the members of a lib group: each pass goes through those that wait, in order, and adds
-//! each that defines a wanted name at that moment, until a pass adds none.
+//! each that defines a wanted name at that moment, until a pass adds none. Most groups end within a few
+//! passes; where one does not, the search goes on by names.
 
 ghost use Rattle.std.specs.Prelude.{◌≡◌, ◌≤◌, length, IfOk, OnOk};
 ghost use Rattle.lk_resolve.specs.Searches.{members_as, numbered_on, searched};
 
 use crate::held::Held;
 use crate::members::Member;
+use crate::name_searches::search_by_names;
 use lk_model::summaries::InputSummary;
 use lk_report::{List, NoMemory};
 use std::alloc::Global;
+
+/// So many passes go round a group before the search goes on by names.
+const PLAIN_PASSES: u32 = 3;
 
 /// The members of a group, numbered from the first; a number that has no room in 32 bits is answered as want
 /// of memory.
@@ -51,7 +56,6 @@ fn pass<'m>(
 }
 
 /// Adds the members of a group that define a wanted name, each when its turn comes.
-#[tactic(auto, using(crate::proofs::Passes::searched_empty))]
 pub fn add_members(
     alloc: Global,
     held: &mut Held,
@@ -61,12 +65,13 @@ pub fn add_members(
     ensures { OnOk result (held.new ≡ searched held.old (numbered_on first summaries.now)) }
 {
     let mut waiting = number_members(alloc, first, summaries)?;
-    'passes: while !waiting.as_slice().is_empty() {
+    'passes: for _ in 0..PLAIN_PASSES {
         let left = pass(alloc, held, waiting.as_slice())?;
         if left.as_slice().len() == waiting.as_slice().len() {
             return Ok(());
         }
         waiting = left;
     }
+    search_by_names(alloc, held, waiting.as_slice())?;
     Ok(())
 }

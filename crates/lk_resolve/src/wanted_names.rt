@@ -37,7 +37,7 @@ fn is_row_wanted(entry: &Name, names: &SymTab, name: &Name, number: u32) -> bool
 
 /// Whether a name is wanted: it is the entry name or an object needs it, no object defines it, and it is not
 /// an import.
-fn is_wanted(entry: &Name, names: &SymTab, name: &Name) -> bool
+pub fn is_wanted(entry: &Name, names: &SymTab, name: &Name) -> bool
     ensures { result ≡ wants_name entry.now names.now name.now }
 {
     match names.find(name) {
@@ -47,7 +47,7 @@ fn is_wanted(entry: &Name, names: &SymTab, name: &Name) -> bool
 }
 
 /// Whether a symbol has a place, in whatever section.
-fn is_home_placed(home: Home) -> bool
+pub fn is_home_placed(home: Home) -> bool
     ensures { result ≡ is_home_placed home }
 {
     match home {

@@ -1,9 +1,6 @@
-use Rattle.std.proofs.Common.{◌≡◌, length}
+use Rattle.std.proofs.Common.{◌≡◌}
 use Rattle.lk_resolve.specs.Searches.{members_as, numbered_on, searched}
 use Rattle.lk_resolve.proofs.searches.add_members.Given as goal
 
 abbrev pub invariant-passes : goal.invariant-passes
 invariant-passes l = searched l.held (members_as l.waiting) ≡ searched l.initial.held (numbered_on l.first l.summaries)
-
-abbrev pub decreases-passes : goal.decreases-passes
-decreases-passes l = length l.waiting
