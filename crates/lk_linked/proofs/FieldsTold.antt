@@ -42,8 +42,8 @@ module _ (r : Resolved) (place : Placement) (ref : Ref) (code : ℕ) (coded : co
   filled_not at old new e same =
       same ∙ ap (λ b. cond b (patch old at (bytes_of (width_of ref.code) (reference_value r place ref))) old) (sym (fits_is false e))
 
-  pub told_not : (old new : List Fault) (refused : ℕ) → false ≡ fits code value → refused ≡ value → new ≡ old ++ overflow_at (path_of_input r ref.input) ref.section ref.offset n.p (numbers_of r place ref).s n.a refused ∷ [] → new ≡ old ++ option_to_list (overflow_of r place ref)
-  told_not old new refused e same put =
+  pub told_not : (old new : List Fault) (refused : ℕ) → false ≡ fits code value → refused ≡ value → n.s ≡ (numbers_of r place ref).s → new ≡ old ++ overflow_at (path_of_input r ref.input) ref.section ref.offset n.p n.s n.a refused ∷ [] → new ≡ old ++ option_to_list (overflow_of r place ref)
+  told_not old new refused e same exact put =
       put
-      ∙ (λ i. old ++ overflow_at (path_of_input r ref.input) ref.section ref.offset (numbers i).p (numbers_of r place ref).s (numbers i).a ((same ∙ value_is) i) ∷ [])
+      ∙ (λ i. old ++ overflow_at (path_of_input r ref.input) ref.section ref.offset (numbers i).p (exact i) (numbers i).a ((same ∙ value_is) i) ∷ [])
       ∙ ap (λ b. old ++ option_to_list (cond b None (Some (overflow_at (path_of_input r ref.input) ref.section ref.offset (numbers_of r place ref).p (numbers_of r place ref).s (numbers_of r place ref).a (reference_value r place ref))))) (sym (fits_is false e))

@@ -1,7 +1,10 @@
 pub mod Lists
 pub mod Widths
-pub mod SymbolsFound
+pub mod Items
+pub mod MarksTold
 pub mod NumbersTold
+pub mod WorthsTold
+pub mod TablesTold
 pub mod FieldsTold
 pub mod PiecesOfObjects
 pub mod ReferencesOnce

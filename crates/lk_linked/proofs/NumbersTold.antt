@@ -1,133 +1,65 @@
 -- The numbers of the relocations of an object are those of the references of its link.
-use Rattle.std.proofs.Common.{◌≡◌, refl, sym, ap, subst, ◌∙◌, ℕ, ◌≤◌, ◌^◌, nat_eq, ◌==◌, Bool, true, false, cond, List, [], ◌∷◌, find, map, get_or, Option, Some, None, option_map, unwrap_or, slice_get}
+use Rattle.std.proofs.Common.{◌≡◌, refl, sym, ap, subst, ◌∙◌, ℕ, ◌≤◌, ◌^◌, List, [], get_or, Option, Some, None, option_map, unwrap_or, slice_get}
 use Rattle.std.proofs.lemmas.Option.{slice_get-map, unwrap_or-slice_get}
-use Rattle.std.specs.Map.{lookup}
-use Rattle.lk_elf.specs.Numbers.{stb_weak}
 use Rattle.lk_elf.specs.declared.relocation.Rela.{Rela}
-use Rattle.lk_report.specs.declared.causes.OptionRecord.{OptionRecord}
-use Rattle.lk_model.specs.declared.layouts.Needs.{Needs}
 use Rattle.lk_model.specs.declared.layouts.Numbers.{Numbers}
 use Rattle.lk_model.specs.declared.layouts.Placement.{Placement}
-use Rattle.lk_model.specs.declared.summaries.Contributions.{Contributions}
-use Rattle.lk_model.specs.declared.summaries.Global.{Global}
-use Rattle.lk_model.specs.declared.summaries.Home.TheVariants as home
-use Rattle.lk_model.specs.declared.summaries.InputSummary.{InputSummary}
-use Rattle.lk_model.specs.declared.summaries.Local.{Local}
-use Rattle.lk_model.specs.Adding.{added_inputs}
-use Rattle.lk_model.specs.Elf.{elf_of}
 use Rattle.lk_model.specs.Finding.{found_of}
 use Rattle.lk_model.specs.FullPlace.{memory_of}
 use Rattle.lk_model.specs.Lawful.{Lawful}
-use Rattle.lk_model.specs.Objects.{code_of_rela, local_in, summary_in, symbol_of_rela}
+use Rattle.lk_model.specs.Objects.{symbol_of_rela}
 use Rattle.lk_model.specs.Overflows.{path_of_input}
-use Rattle.lk_model.specs.References.{number_of_name, reference_of, through_of}
 use Rattle.lk_model.specs.Resolving.{paths_of, resolve}
-use Rattle.lk_model.specs.SymbolValues.{local_of, local_value, name_value, numbers_of}
-use Rattle.lk_model.specs.Views.{Elf, Input, Ref, Resolved, Through}
+use Rattle.lk_model.specs.SymbolValues.{numbers_of}
+use Rattle.lk_model.specs.Views.{Input, Ref, Resolved}
 use Rattle.lk_resolve.specs.Settling.{Settled}
-use Rattle.lk_symtab.specs.NameRows.{all_symbols}
-use Rattle.lk_table_sizes.proofs.Seen.{seen}
-use Rattle.lk_table_sizes.specs.Given.{IsGiven}
-use Rattle.lk_values.specs.Worth.{Known, low_numbers, reference_by}
+use Rattle.lk_values.specs.Worth.{Known, low_numbers, numbers_by, piece_start, place_at, relocation_of, worth_of}
 use Rattle.lk_values.specs.declared.values.Relocation.{Relocation}
+use Rattle.lk_values.specs.declared.values.SymbolWorth.{SymbolWorth}
+use Rattle.lk_values.proofs.NumbersTold.{place_told, value_told}
 use Rattle.lk_linked.specs.HeldObjects.{IsObjectOf}
-use Rattle.lk_linked.specs.Links.{IsLinkOf, relocation_in}
+use Rattle.lk_linked.specs.Links.{IsLinkOf}
 use Rattle.lk_linked.specs.References.{reference_in}
-use Rattle.lk_linked.specs.SymbolNumbers.{AreNumbersOf}
-use Rattle.lk_linked.proofs.SymbolsFound.{found_in, name_of_global}
-
--- ---- through what a relocation goes
-
-abbrev through_by : List Contributions → ℕ → Option Global → Through
-through_by names symbol o = elim o [ None ↦ Through.ByLocal symbol | Some g ↦ Through.ByName (number_of_name names g.name) (g.binding == stb_weak) ]
+use Rattle.lk_linked.specs.SymbolWorths.{IsReady, IsWorthAt, IsWorthOf, relocation_at}
 
 module _ (settled : Settled) (known : Known) (place : Placement) (r : Resolved) (link : IsLinkOf settled known place r) where
-  names_are : r.names ≡ all_symbols settled.rows
-  names_are =
-      let sees = seen known.settled known.summaries link.needs link.options link.inputs link.given in
-      ap (λ (x : Resolved). x.names) link.resolved ∙ sees.names ∙ ap (λ (s : Settled). all_symbols s.rows) link.same
+  -- the link of what is settled and placed in what is known of the values of symbols
+  own_link : IsLinkOf known.settled known known.place r
+  own_link = record {
+    needs = link.needs;
+    options = link.options;
+    inputs = link.inputs;
+    resolved = link.resolved;
+    given = link.given;
+    same = refl;
+    placed = refl;
+    lawful = subst (λ (p : Placement). Lawful r p) (sym link.placed) link.lawful;
+    within = subst (λ (p : Placement). memory_of p ≤ 2 ^ 31) (sym link.placed) link.within;
+  }
 
-  -- a name that is noted of a symbol
-  named : (o : Option Global) (symbol name : ℕ) → option_map (name_of_global settled.rows) o ≡ Some name → (weak : Bool) × (through_by r.names symbol o ≡ Through.ByName name weak)
-  named None symbol name e = absurd (cc)
-  named (Some g) symbol name e =
-      let is : name_of_global settled.rows g ≡ name = cc in
-      (g.binding == stb_weak, λ i. Through.ByName ((ap (λ names. number_of_name names g.name) names_are ∙ is) i) (g.binding == stb_weak))
+  module _ (n : ℕ) (bytes : List ℕ) (section : ℕ) (rela : Rela) (o : IsObjectOf r.inputs n bytes) (k : ℕ) (number : k ≡ symbol_of_rela rela) (w : SymbolWorth) (is : IsWorthAt known n bytes k w) where
+    abbrev ref : Ref
+    ref = reference_in r n bytes section rela
 
-  unnamed : (o : Option Global) (symbol : ℕ) → option_map (name_of_global settled.rows) o ≡ None → through_by r.names symbol o ≡ Through.ByLocal symbol
-  unnamed None symbol e = refl
-  unnamed (Some g) symbol e = absurd (cc)
+    worth_here : IsWorthOf r known.place n ref.through w
+    worth_here = subst (λ m. IsWorthAt known n bytes m w) number is r own_link o
 
-  lawful_there : Lawful (resolve link.options link.inputs) known.place
-  lawful_there = subst (λ (p : Placement). Lawful (resolve link.options link.inputs) p) (sym link.placed) (subst (λ (x : Resolved). Lawful x place) link.resolved link.lawful)
+    -- the numbers of a relocation at its place
+    pub numbers_here : (start : Option ℕ) → start ≡ piece_start known.place n section → (x : Relocation) → x ≡ relocation_at start rela → (result : Numbers)
+        → ((y : Resolved) (f : Ref) → x ≡ relocation_of known.place f → w ≡ worth_of y known.place f.input f.through → result ≡ low_numbers (numbers_of y known.place f))
+        → result ≡ low_numbers (numbers_of r place ref)
+    numbers_here start begins x at result told =
+        let there : place_at start rela.r_offset ≡ (relocation_of known.place ref).address = ap (λ s. place_at s rela.r_offset) begins ∙ place_told known.place n section rela.r_offset in
+        told r ref (at ∙ (λ i. record (relocation_of known.place ref) { address = there i })) worth_here.worth
+        ∙ ap (λ (p : Placement). low_numbers (numbers_of r p ref)) link.placed
 
-  within_there : memory_of known.place ≤ 2 ^ 31
-  within_there = subst (λ (p : Placement). memory_of p ≤ 2 ^ 31) (sym link.placed) link.within
-
-  module _ (n : ℕ) (bytes : List ℕ) (section : ℕ) (rela : Rela) (entries : List (ℕ × ℕ)) (noted : AreNumbersOf settled.rows bytes entries) where
-    -- the reference through what is found
-    found_reference : (t : Through) → through_by r.names (symbol_of_rela rela) (find (λ (g : Global). g.symbol == symbol_of_rela rela) (summary_in (elf_of bytes)).globals) ≡ t → reference_by (relocation_in n section rela) t ≡ reference_in r n bytes section rela
-    found_reference t e = λ i. record { input = n; section = section; offset = rela.r_offset; code = code_of_rela rela; addend = rela.r_addend; through = sym e i }
-
-    name_found : (o : Option ℕ) → lookup (nat_eq (symbol_of_rela rela)) entries ≡ o → option_map (name_of_global settled.rows) (find (λ (g : Global). g.symbol == symbol_of_rela rela) (summary_in (elf_of bytes)).globals) ≡ o
-    name_found o e = found_in settled.rows (summary_in (elf_of bytes)).globals (symbol_of_rela rela) o (ap (lookup (nat_eq (symbol_of_rela rela))) (sym noted) ∙ e)
-
-    found_name : (name : ℕ) → lookup (nat_eq (symbol_of_rela rela)) entries ≡ Some name → (weak : Bool) × (reference_by (relocation_in n section rela) (Through.ByName name weak) ≡ reference_in r n bytes section rela)
-    found_name name e =
-        let h = named (find (λ (g : Global). g.symbol == symbol_of_rela rela) (summary_in (elf_of bytes)).globals) (symbol_of_rela rela) name (name_found (Some name) e) in
-        (h.0, found_reference (Through.ByName name h.0) h.1)
-
-    found_local : lookup (nat_eq (symbol_of_rela rela)) entries ≡ None → reference_by (relocation_in n section rela) (Through.ByLocal (symbol_of_rela rela)) ≡ reference_in r n bytes section rela
-    found_local e = found_reference (Through.ByLocal (symbol_of_rela rela)) (unnamed (find (λ (g : Global). g.symbol == symbol_of_rela rela) (summary_in (elf_of bytes)).globals) (symbol_of_rela rela) (name_found None e))
-
-    module _ (x : Relocation) (is : x ≡ relocation_in n section rela) (k : ℕ) (number : k ≡ symbol_of_rela rela) where
-      looked_up : (o : Option ℕ) → o ≡ lookup (nat_eq k) entries → lookup (nat_eq (symbol_of_rela rela)) entries ≡ o
-      looked_up o e = ap (λ s. lookup (nat_eq s) entries) (sym number) ∙ sym e
-
-      -- numbers through a name
-      pub name_told : (name : ℕ) (result : Numbers) → Some name ≡ lookup (nat_eq k) entries
-          → ((needs : Needs) (options : OptionRecord) (xs : List Input) → IsGiven known.settled known.summaries needs options xs → Lawful (resolve options xs) known.place → (weak : Bool) → result ≡ low_numbers (numbers_of (resolve options xs) known.place (reference_by x (Through.ByName name weak))))
-          → result ≡ low_numbers (numbers_of r place (reference_in r n bytes section rela))
-      name_told name result e told =
-          let h = found_name name (looked_up (Some name) e) in
-          told link.needs link.options link.inputs link.given lawful_there h.0
-          ∙ ap (λ (y : Relocation). low_numbers (numbers_of (resolve link.options link.inputs) known.place (reference_by y (Through.ByName name h.0)))) is
-          ∙ (λ i. low_numbers (numbers_of (sym link.resolved i) (link.placed i) (h.1 i)))
-
-      -- numbers through a LOCAL symbol
-      local_there : (local : Local) → local ≡ local_in (elf_of bytes) k → IsObjectOf r.inputs n bytes → local ≡ local_of r n (symbol_of_rela rela)
-      local_there local found o =
-          found
-          ∙ (λ i. local_in (sym o.file i) (number i))
-          ∙ ap (λ (y : Option Input). elim y [ None ↦ record { home = home.Undefined; value = 0; size = 0; code = 0 } | Some i ↦ local_in i.elf (symbol_of_rela rela) ]) (sym o.there)
-
-      pub local_told : (local : Local) (result : Numbers) → None ≡ lookup (nat_eq k) entries → local ≡ local_in (elf_of bytes) k → IsObjectOf r.inputs n bytes
-          → ((y : Resolved) → local ≡ local_of y x.input k → result ≡ low_numbers (numbers_of y known.place (reference_by x (Through.ByLocal k))))
-          → result ≡ low_numbers (numbers_of r place (reference_in r n bytes section rela))
-      local_told local result e found o told =
-          told r (local_there local found o ∙ (λ i. local_of r (sym is i).input (sym number i)))
-          ∙ (λ i. low_numbers (numbers_of r known.place (reference_by (is i) (Through.ByLocal (number i)))))
-          ∙ (λ i. low_numbers (numbers_of r (link.placed i) (found_local (looked_up None e) i)))
-
-    -- ---- what symbols are worth
-
-    module _ (k : ℕ) (number : k ≡ symbol_of_rela rela) where
-      pub name_worth : (name result : ℕ) → Some name ≡ lookup (nat_eq k) entries
-          → ((needs : Needs) (options : OptionRecord) (xs : List Input) → IsGiven known.settled known.summaries needs options xs → Lawful (resolve options xs) known.place → memory_of known.place ≤ 2 ^ 31 → result ≡ name_value (resolve options xs) known.place name)
-          → result ≡ (numbers_of r place (reference_in r n bytes section rela)).s
-      name_worth name result e told =
-          let h = found_name name (looked_up (relocation_in n section rela) refl k number (Some name) e) in
-          told link.needs link.options link.inputs link.given lawful_there within_there
-          ∙ (λ i. name_value (sym link.resolved i) (link.placed i) name)
-          ∙ ap (λ (ref : Ref). (numbers_of r place ref).s) h.1
-
-      pub local_worth : (local : Local) (result : ℕ) → None ≡ lookup (nat_eq k) entries → local ≡ local_in (elf_of bytes) k → IsObjectOf r.inputs n bytes
-          → ((y : Resolved) (j : ℕ) → local ≡ local_of y n j → result ≡ local_value y known.place n j)
-          → result ≡ (numbers_of r place (reference_in r n bytes section rela)).s
-      local_worth local result e found o told =
-          told r (symbol_of_rela rela) (local_there (relocation_in n section rela) refl k number local found o)
-          ∙ (λ i. local_value r (link.placed i) n (symbol_of_rela rela))
-          ∙ ap (λ (ref : Ref). (numbers_of r place ref).s) (found_local (looked_up (relocation_in n section rela) refl k number None e))
+    -- and the value of its symbol
+    pub value_here : (x : Relocation) (result : Numbers) → result ≡ numbers_by known.place x w → result.s ≡ (numbers_of r place ref).s
+    value_here x result parts =
+        ap (λ (m : Numbers). m.s) parts
+        ∙ worth_here.exact
+        ∙ value_told r known.place ref
+        ∙ ap (λ (p : Placement). (numbers_of r p ref).s) link.placed
 
   -- ---- paths
 

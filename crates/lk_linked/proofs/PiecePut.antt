@@ -3,7 +3,6 @@ use Rattle.std.proofs.Common.{◌≡◌, refl, sym, ap, subst, ◌∙◌, arith,
 use Rattle.std.proofs.lemmas.Bool.Decides.{nat_tests}
 use Rattle.std.proofs.lemmas.List.{append-nil, append_assoc, drop_all, drop_more}
 use Rattle.std.proofs.lemmas.List.Elements.{filter_map-append, recursion_from_All}
-use Rattle.std.specs.Cmp.{nat_eq_equiv}
 use Rattle.std.specs.List.{AllByRecursion, list_any}
 use Rattle.lk_report.specs.declared.faults.Fault.{Fault}
 use Rattle.lk_model.specs.declared.layouts.PieceId.{PieceId}
@@ -20,24 +19,15 @@ use Rattle.lk_model.specs.Overflows.{overflow_of}
 use Rattle.lk_model.specs.SectionKeys.{in_file}
 use Rattle.lk_model.specs.Views.{Elf, Ref, Resolved}
 use Rattle.lk_obj_read.proofs.ObjectsHeld.{pieces_told}
-use Rattle.lk_resolve.proofs.ListSets.{any-distinct}
 use Rattle.lk_linked.specs.Faults.{overflows}
 use Rattle.lk_linked.specs.HeldObjects.{IsObjectOf, object_in}
-use Rattle.lk_linked.specs.PieceLists.{is_listed, section_of, sections_of}
+use Rattle.lk_linked.specs.PieceLists.{is_listed}
 use Rattle.lk_linked.specs.Places.{KnownPiece, KnownSection, piece_filled, put_in_row, with_piece}
 use Rattle.lk_linked.specs.References.{piece_references, placed_references}
 use Rattle.lk_linked.proofs.Lists.{all_at}
 use Rattle.lk_linked.proofs.PlacesTold.{patch_nothing}
 
 -- ---- pieces of an object
-
-listed_in : (s : ℕ) (ps : List PieceInfo) → list_any (nat_eq s) (map section_of ps) ≡ is_listed s ps
-listed_in s [] = refl
-listed_in s (p ∷ ps) = ap (λ b. nat_eq s p.section || b) (listed_in s ps)
-
--- a section is in the table where it is one of the pieces
-pub table_told : (keys : List ℕ) (ps : List PieceInfo) (s : ℕ) → keys ≡ sections_of ps → list_any (nat_eq s) keys ≡ is_listed s ps
-table_told keys ps s e = ap (list_any (nat_eq s)) e ∙ any-distinct nat_eq nat_eq_equiv s (map section_of ps) ∙ listed_in s ps
 
 same_number : (s t : ℕ) → nat_eq s t ≡ true → s ≡ t
 same_number s t e = grind (arith, nat_tests)
@@ -50,15 +40,15 @@ listed_piece elf s (p ∷ ps) all e = by (nat_eq s p.section) refl e (listed_pie
     by true is h later = subst (λ n. IsTrue (is_piece_in elf n)) (sym (same_number s p.section is)) all.0
     by false is h later = later h
 
-pub piece_is : (bytes keys : List ℕ) (s : ℕ) → keys ≡ sections_of (summary_in (elf_of bytes)).pieces → list_any (nat_eq s) keys ≡ true → IsTrue (is_piece_in (elf_of bytes) s)
-piece_is bytes keys s e there =
+pub piece_is : (bytes : List ℕ) (s : ℕ) → is_listed s (summary_in (elf_of bytes)).pieces ≡ true → IsTrue (is_piece_in (elf_of bytes) s)
+piece_is bytes s there =
     let ps : List PieceInfo = (summary_in (elf_of bytes)).pieces in
     listed_piece (elf_of bytes) s ps
     (recursion_from_All (λ (p : PieceInfo). IsTrue (is_piece_in (elf_of bytes) p.section)) ps (pieces_told bytes (summary_in (elf_of bytes)) refl))
-    (sym (table_told keys ps s e) ∙ there)
+    there
 
-pub piece_listed : {A : Type 0} (keys : List ℕ) (ps : List PieceInfo) (s : ℕ) → keys ≡ sections_of ps → list_any (nat_eq s) keys ≡ false → is_listed s ps ≡ true → A
-piece_listed keys ps s e none there = absurd (let both : false ≡ true = sym none ∙ table_told keys ps s e ∙ there in cc)
+pub not_both : {A : Type 0} (a b : Bool) → a ≡ b → a ≡ false → b ≡ true → A
+not_both a b e none there = absurd (let both : false ≡ true = sym none ∙ e ∙ there in cc)
 
 -- the object of a known section
 same_bytes : (xs ys : List ℕ) → Some xs ≡ Some ys → xs ≡ ys

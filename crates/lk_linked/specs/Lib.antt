@@ -1,10 +1,10 @@
 pub mod PieceLists
 pub mod References
 pub mod Written
-pub mod SymbolNumbers
 pub mod HeldObjects
 pub mod Links
+pub mod SymbolWorths
+pub mod ObjectTables
 pub mod Fields
 pub mod Faults
 pub mod Places
-pub mod Current

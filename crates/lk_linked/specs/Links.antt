@@ -2,19 +2,16 @@
 -- resolution finds of the inputs of a command.
 use Rattle.std.specs.Prelude.{◌≡◌, ℕ, ◌≤◌, ◌^◌, List, Option}
 use Rattle.std.specs.List.{AllByRecursion}
-use Rattle.lk_elf.specs.declared.relocation.Rela.{Rela}
 use Rattle.lk_report.specs.declared.causes.OptionRecord.{OptionRecord}
 use Rattle.lk_model.specs.declared.layouts.Needs.{Needs}
 use Rattle.lk_model.specs.declared.layouts.Placement.{Placement}
 use Rattle.lk_model.specs.FullPlace.{memory_of}
 use Rattle.lk_model.specs.Lawful.{Lawful}
-use Rattle.lk_model.specs.Objects.{code_of_rela}
 use Rattle.lk_model.specs.Resolving.{resolve}
 use Rattle.lk_model.specs.Views.{Input, Resolved}
 use Rattle.lk_resolve.specs.Settling.{Settled}
 use Rattle.lk_table_sizes.specs.Given.{IsGiven}
 use Rattle.lk_values.specs.Worth.{Known}
-use Rattle.lk_values.specs.declared.values.Relocation.{Relocation}
 use Rattle.lk_linked.specs.HeldObjects.{HoldsObject}
 
 -- what is settled, what symbols are worth and the placement are those of a link, and the placement is lawful and
@@ -34,7 +31,3 @@ pub record IsLinkOf (settled : Settled) (known : Known) (place : Placement) (r :
 pub record IsLinked (settled : Settled) (known : Known) (place : Placement) (objects : List (Option (List ℕ))) (r : Resolved) : Type 0 where
   pub link : IsLinkOf settled known place r
   pub objects_are : AllByRecursion (HoldsObject objects r.inputs) r.added
-
--- a relocation of a section of an input, as what symbols are worth is asked for it
-abbrev pub relocation_in : ℕ → ℕ → Rela → Relocation
-relocation_in input section rela = record { input = input; section = section; offset = rela.r_offset; code = code_of_rela rela; addend = rela.r_addend }

@@ -6,14 +6,13 @@ ghost use Rattle.std.specs.Option.{option_to_list};
 ghost use Rattle.lk_model.specs.Objects.{code_of_rela};
 ghost use Rattle.lk_model.specs.Overflows.{overflow_of, path_of_input};
 ghost use Rattle.lk_model.specs.RelocationTypes.{width_of};
-ghost use Rattle.lk_model.specs.SymbolValues.{numbers_of};
 ghost use Rattle.lk_model.specs.Views.{Resolved};
 ghost use Rattle.lk_linked.specs.Faults.{overflow_at, overflows};
 ghost use Rattle.lk_linked.specs.Fields.{all_filled, filled_at};
 ghost use Rattle.lk_linked.specs.HeldObjects.{IsObjectOf};
 ghost use Rattle.lk_linked.specs.Links.{IsLinkOf};
 ghost use Rattle.lk_linked.specs.References.{reference_in, references_by};
-ghost use Rattle.lk_linked.specs.SymbolNumbers.{AreNumbersOf};
+ghost use Rattle.lk_linked.specs.SymbolWorths.{IsReady};
 
 use crate::object_sections::ObjectSection;
 use crate::relocations::code_of;
@@ -35,11 +34,9 @@ fn tell_overflow(
     value: u64,
     faults: &mut FaultList,
 ) -> Result<(), NoMemory>
-    requires { AreNumbersOf section.now.resolution.now.rows section.now.object.now section.now.numbers.now.entries }
-    ensures { (r : Resolved) → IsLinkOf section.now.resolution.now section.now.values.now section.now.placement.now r → IsObjectOf r.inputs section.now.input section.now.object.now → OnOk result (faults.new ≡ faults.old ++ overflow_at (path_of_input r section.now.input) section.now.section rela.now.r_offset numbers.p (numbers_of r section.now.placement.now (reference_in r section.now.input section.now.object.now section.now.section rela.now)).s numbers.a value ∷ []) }
+    ensures { (r : Resolved) → IsLinkOf section.now.resolution.now section.now.values.now section.now.placement.now r → OnOk result (faults.new ≡ faults.old ++ overflow_at (path_of_input r section.now.input) section.now.section rela.now.r_offset numbers.p numbers.s numbers.a value ∷ []) }
 {
-    let symbol = section.symbol_value(rela);
-    let fault = section.overflow(alloc, rela, numbers, symbol, value)?;
+    let fault = section.overflow(alloc, rela, numbers, value)?;
     faults.push(fault)?;
     Ok(())
 }
@@ -54,7 +51,7 @@ fn fill_field(
     rela: &Rela,
     faults: &mut FaultList,
 ) -> Result<(), NoMemory>
-    requires numbered { AreNumbersOf section.now.resolution.now.rows section.now.object.now section.now.numbers.now.entries }
+    requires ready { IsReady section.now.values.now section.now.input section.now.section section.now.object.now section.now.worths.now.items section.now.start }
     requires within { at + width_of (code_of_rela rela.now) ≤ length bytes.old }
     ensures filled { (r : Resolved) → IsLinkOf section.now.resolution.now section.now.values.now section.now.placement.now r → IsObjectOf r.inputs section.now.input section.now.object.now → OnOk result (bytes.new ≡ filled_at r section.now.placement.now at bytes.old (reference_in r section.now.input section.now.object.now section.now.section rela.now)) }
     ensures told { (r : Resolved) → IsLinkOf section.now.resolution.now section.now.values.now section.now.placement.now r → IsObjectOf r.inputs section.now.input section.now.object.now → OnOk result (faults.new ≡ faults.old ++ option_to_list (overflow_of r section.now.placement.now (reference_in r section.now.input section.now.object.now section.now.section rela.now))) }
@@ -79,7 +76,7 @@ pub(crate) fn fill_fields(
     relas: &[Rela],
     faults: &mut FaultList,
 ) -> Result<(), NoMemory>
-    requires numbered { AreNumbersOf section.now.resolution.now.rows section.now.object.now section.now.numbers.now.entries }
+    requires ready { IsReady section.now.values.now section.now.input section.now.section section.now.object.now section.now.worths.now.items section.now.start }
     requires within { All (λ rela. rela.r_offset + width_of (code_of_rela rela) ≤ length bytes.old) relas.now }
     ensures filled { (r : Resolved) → IsLinkOf section.now.resolution.now section.now.values.now section.now.placement.now r → IsObjectOf r.inputs section.now.input section.now.object.now → OnOk result (bytes.new ≡ all_filled r section.now.placement.now bytes.old (references_by r section.now.input section.now.object.now section.now.section relas.now)) }
     ensures told { (r : Resolved) → IsLinkOf section.now.resolution.now section.now.values.now section.now.placement.now r → IsObjectOf r.inputs section.now.input section.now.object.now → OnOk result (faults.new ≡ faults.old ++ overflows r section.now.placement.now (references_by r section.now.input section.now.object.now section.now.section relas.now)) }
@@ -98,7 +95,7 @@ pub(crate) fn check_fields(
     relas: &[Rela],
     faults: &mut FaultList,
 ) -> Result<(), NoMemory>
-    requires { AreNumbersOf section.now.resolution.now.rows section.now.object.now section.now.numbers.now.entries }
+    requires { IsReady section.now.values.now section.now.input section.now.section section.now.object.now section.now.worths.now.items section.now.start }
     ensures { (r : Resolved) → IsLinkOf section.now.resolution.now section.now.values.now section.now.placement.now r → IsObjectOf r.inputs section.now.input section.now.object.now → OnOk result (faults.new ≡ faults.old ++ overflows r section.now.placement.now (references_by r section.now.input section.now.object.now section.now.section relas.now)) }
 {
     for rela in relas {

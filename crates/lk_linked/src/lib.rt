@@ -8,17 +8,20 @@
 //! The contract cites lk_model, wherever the arguments are those of a link (`IsLinked` of specs/Links.antt): the
 //! faults are those that `overflow_faults` lists, and where there are none, the stretches of the kept pieces
 //! (`piece_stretches` of specs/Written.antt) are written into the file, one after another. Callers rely on one law:
-//! a file without faults has the linked bytes of every piece, and no other byte is changed. The symbols of an object
-//! are looked up once each, by hash, before its first piece, and nothing is allocated for a relocation that fits.
+//! a file without faults has the linked bytes of every piece, and no other byte is changed. Where a section
+//! begins is looked up once for the section, what a symbol is worth once for the object, on its first use; a relocation
+//! that fits is neither looked up by hash nor allocated for.
 #![tactic(auto)]
 
-mod current_objects;
 mod field_filling;
+mod growing;
 mod linking;
 mod object_sections;
+mod object_tables;
+mod piece_marks;
 mod piece_places;
 mod relocations;
 mod section_linking;
-mod symbol_numbers;
+mod symbol_worths;
 
 pub use linking::link_pieces;

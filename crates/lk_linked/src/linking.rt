@@ -6,16 +6,16 @@ ghost use Rattle.lk_model.specs.declared.layouts.PieceId.TheVariants as id;
 ghost use Rattle.lk_model.specs.FullPlace.{tail_start};
 ghost use Rattle.lk_model.specs.Overflows.{overflow_faults};
 ghost use Rattle.lk_model.specs.Views.{Resolved};
-ghost use Rattle.lk_linked.specs.Current.{AreCurrent, AreTablesOf};
 ghost use Rattle.lk_linked.specs.Faults.{overflows};
 ghost use Rattle.lk_linked.specs.HeldObjects.{object_in};
 ghost use Rattle.lk_linked.specs.Links.{IsLinkOf, IsLinked};
+ghost use Rattle.lk_linked.specs.ObjectTables.{AreCurrent, AreTablesOf};
 ghost use Rattle.lk_linked.specs.Places.{KnownPiece, KnownSection, LiesInRow, with_piece};
 ghost use Rattle.lk_linked.specs.References.{piece_references, placed_references};
 ghost use Rattle.lk_linked.specs.Written.{piece_stretches, written};
 
-use crate::current_objects::{CurrentObject, object_at};
 use crate::object_sections::ObjectSection;
+use crate::object_tables::{ObjectTables, object_at};
 use crate::section_linking::link_piece;
 use lk_model::layouts::{PieceId, PieceRow, Placement};
 use lk_obj_read::Object;
@@ -38,14 +38,14 @@ impl<'a> Link<'a> {
     fn put_section(
         &self,
         alloc: Global,
-        current: &CurrentObject,
+        current: &ObjectTables,
         piece: &PieceRow,
         input: u32,
         section: u32,
         image: &mut [u8],
         faults: &mut FaultList,
     ) -> Result<(), NoMemory>
-        requires { (bytes : List ℕ) → object_in self.now.objects.now input ≡ Some bytes → AreTablesOf self.now.resolution.now.rows bytes current.now.numbers.entries current.now.pieces.keys }
+        requires { (bytes : List ℕ) → object_in self.now.objects.now input ≡ Some bytes → AreTablesOf self.now.values.now input bytes current.now.worths.items current.now.marks.items }
         ensures linked { (r : Resolved) → IsLinkOf self.now.resolution.now self.now.values.now self.now.placement.now r → KnownSection self.now.objects.now r input section → LiesInRow self.now.placement.now piece.now (slice_get self.now.placement.now.sections piece.now.section) → piece.now.piece ≡ id.Section input section → tail_start self.now.placement.now ≤ length image.old → OnOk result (image.new ≡ with_piece r self.now.placement.now image.old piece.now) }
         ensures told { (r : Resolved) → IsLinkOf self.now.resolution.now self.now.values.now self.now.placement.now r → KnownSection self.now.objects.now r input section → OnOk result (faults.new ≡ faults.old ++ overflows r self.now.placement.now (piece_references r (id.Section input section))) }
     {
@@ -57,11 +57,12 @@ impl<'a> Link<'a> {
                     values: self.values,
                     placement: self.placement,
                     object,
-                    numbers: &current.numbers,
+                    worths: &current.worths,
                     input,
                     section,
+                    start: self.values.piece_start(input, section),
                 };
-                link_piece(alloc, &section, &current.pieces, piece, image, faults)?;
+                link_piece(alloc, &section, &current.marks, piece, image, faults)?;
                 Ok(())
             }
         }
@@ -71,13 +72,13 @@ impl<'a> Link<'a> {
     fn put_piece(
         &self,
         alloc: Global,
-        current: &mut CurrentObject,
+        current: &mut ObjectTables,
         piece: &PieceRow,
         image: &mut [u8],
         faults: &mut FaultList,
     ) -> Result<(), NoMemory>
-        requires { AreCurrent self.now.resolution.now.rows self.now.objects.now current.old.input current.old.numbers.entries current.old.pieces.keys }
-        ensures current { OnOk result (AreCurrent self.now.resolution.now.rows self.now.objects.now current.new.input current.new.numbers.entries current.new.pieces.keys) }
+        requires { AreCurrent self.now.values.now self.now.objects.now current.old.input current.old.worths.items current.old.marks.items }
+        ensures current { OnOk result (AreCurrent self.now.values.now self.now.objects.now current.new.input current.new.worths.items current.new.marks.items) }
         ensures linked { (r : Resolved) → IsLinkOf self.now.resolution.now self.now.values.now self.now.placement.now r → KnownPiece self.now.objects.now r self.now.placement.now piece.now → tail_start self.now.placement.now ≤ length image.old → OnOk result (image.new ≡ with_piece r self.now.placement.now image.old piece.now) }
         ensures told { (r : Resolved) → IsLinkOf self.now.resolution.now self.now.values.now self.now.placement.now r → KnownPiece self.now.objects.now r self.now.placement.now piece.now → OnOk result (faults.new ≡ faults.old ++ overflows r self.now.placement.now (piece_references r piece.now.piece)) }
     {
@@ -85,7 +86,7 @@ impl<'a> Link<'a> {
             PieceId::Common { .. } => Ok(()),
             PieceId::Copy { .. } => Ok(()),
             PieceId::Section { input, section } => {
-                current.turn_to(alloc, self.resolution, self.objects, input)?;
+                current.get_ready(self.values, self.objects, input, section)?;
                 self.put_section(alloc, current, piece, input, section, image, faults)?;
                 Ok(())
             }
@@ -102,7 +103,7 @@ impl<'a> Link<'a> {
         ensures linked { (r : Resolved) → IsLinkOf self.now.resolution.now self.now.values.now self.now.placement.now r → AllByRecursion (KnownPiece self.now.objects.now r self.now.placement.now) self.now.placement.now.pieces → tail_start self.now.placement.now ≤ length image.old → OnOk result (image.new ≡ fold (with_piece r self.now.placement.now) image.old self.now.placement.now.pieces) }
         ensures told { (r : Resolved) → IsLinkOf self.now.resolution.now self.now.values.now self.now.placement.now r → AllByRecursion (KnownPiece self.now.objects.now r self.now.placement.now) self.now.placement.now.pieces → OnOk result (faults.new ≡ faults.old ++ overflows r self.now.placement.now (placed_references r self.now.placement.now.pieces)) }
     {
-        let mut current = CurrentObject::none(alloc);
+        let mut current = ObjectTables::none(alloc);
         let pieces = self.placement.pieces.as_slice();
         for piece in pieces {
             self.put_piece(alloc, &mut current, piece, image, faults)?;

@@ -6,19 +6,19 @@ ghost use Rattle.lk_model.specs.SymbolValues.{numbers_of};
 ghost use Rattle.lk_model.specs.Views.{Resolved};
 ghost use Rattle.lk_linked.specs.Faults.{overflow_at};
 ghost use Rattle.lk_linked.specs.HeldObjects.{IsObjectOf};
-ghost use Rattle.lk_linked.specs.Links.{IsLinkOf, relocation_in};
+ghost use Rattle.lk_linked.specs.Links.{IsLinkOf};
 ghost use Rattle.lk_linked.specs.References.{reference_in};
-ghost use Rattle.lk_linked.specs.SymbolNumbers.{AreNumbersOf};
+ghost use Rattle.lk_linked.specs.SymbolWorths.{IsReady, IsWorthAt, relocation_at};
 ghost use Rattle.lk_values.specs.Worth.{low_numbers};
 
 use crate::relocations::{code_of, symbol_of};
-use crate::symbol_numbers::SymbolNumbers;
+use crate::symbol_worths::{SymbolWorths, find_worth, worth_at};
 use lk_elf::Rela;
 use lk_model::layouts::{Numbers, Placement};
 use lk_obj_read::Object;
 use lk_report::{Fault, Name, NoMemory, Site};
 use lk_resolve::Resolution;
-use lk_values::{Relocation, Values};
+use lk_values::{Relocation, SymbolWorth, Values, place_at};
 use std::alloc::Global;
 
 /// A section of an object in a link.
@@ -28,22 +28,22 @@ pub(crate) struct ObjectSection<'a> {
     pub(crate) values: &'a Values<'a>,
     pub(crate) placement: &'a Placement,
     pub(crate) object: &'a Object,
-    /// The numbers of the names of the object's symbols.
-    pub(crate) numbers: &'a SymbolNumbers,
+    /// What the object's symbols are worth, as far as it is known.
+    pub(crate) worths: &'a SymbolWorths,
     /// The number of the input that the object is.
     pub(crate) input: u32,
     /// The section's number in the object.
     pub(crate) section: u32,
+    /// Where the section begins, where it is placed.
+    pub(crate) start: Option<u64>,
 }
 
-/// A relocation of a section, as what symbols are worth is asked for it.
-fn relocation_of(input: u32, section: u32, rela: &Rela) -> Relocation
-    ensures { result ≡ relocation_in input section rela.now }
+/// A relocation of a section that begins there, at its place.
+fn relocation_at(start: Option<u64>, rela: &Rela) -> Relocation
+    ensures { result ≡ relocation_at start rela.now }
 {
     Relocation {
-        input,
-        section,
-        offset: rela.r_offset,
+        address: place_at(start, rela.r_offset),
         code: code_of(rela),
         addend: rela.r_addend,
     }
@@ -61,48 +61,39 @@ fn path_of(alloc: Global, resolution: &Resolution, input: u32) -> Result<Name, N
 }
 
 impl<'a> ObjectSection<'a> {
-    /// The numbers of one of its relocations, by their low 64 bits.
+    /// What a symbol of its object is worth; one that is not known yet is found.
+    fn worth(&self, symbol: u32) -> SymbolWorth
+        requires { IsReady self.now.values.now self.now.input self.now.section self.now.object.now self.now.worths.now.items self.now.start }
+        ensures { IsWorthAt self.now.values.now self.now.input self.now.object.now symbol result }
+    {
+        match worth_at(self.worths, symbol) {
+            Some(worth) => worth,
+            None => find_worth(self.values, self.object, self.input, symbol),
+        }
+    }
+
+    /// The numbers of one of its relocations, by their low 64 bits; that of its symbol, S, as it is.
     pub(crate) fn relocation_numbers(&self, rela: &Rela) -> Numbers
-        requires { AreNumbersOf self.now.resolution.now.rows self.now.object.now self.now.numbers.now.entries }
-        ensures { (r : Resolved) → IsLinkOf self.now.resolution.now self.now.values.now self.now.placement.now r → IsObjectOf r.inputs self.now.input self.now.object.now → result ≡ low_numbers (numbers_of r self.now.placement.now (reference_in r self.now.input self.now.object.now self.now.section rela.now)) }
+        requires { IsReady self.now.values.now self.now.input self.now.section self.now.object.now self.now.worths.now.items self.now.start }
+        ensures numbers { (r : Resolved) → IsLinkOf self.now.resolution.now self.now.values.now self.now.placement.now r → IsObjectOf r.inputs self.now.input self.now.object.now → result ≡ low_numbers (numbers_of r self.now.placement.now (reference_in r self.now.input self.now.object.now self.now.section rela.now)) }
+        ensures exact { (r : Resolved) → IsLinkOf self.now.resolution.now self.now.values.now self.now.placement.now r → IsObjectOf r.inputs self.now.input self.now.object.now → result.s ≡ (numbers_of r self.now.placement.now (reference_in r self.now.input self.now.object.now self.now.section rela.now)).s }
     {
-        let relocation = relocation_of(self.input, self.section, rela);
+        let relocation = relocation_at(self.start, rela);
         let symbol = symbol_of(rela);
-        match self.numbers.get(&symbol) {
-            Some(name) => self.values.name_numbers(&relocation, *name),
-            None => {
-                let local = self.object.local(symbol);
-                self.values.local_numbers(&relocation, symbol, &local)
-            }
-        }
+        let worth = self.worth(symbol);
+        self.values.numbers(&relocation, &worth)
     }
 
-    /// The value of the symbol of one of its relocations.
-    pub(crate) fn symbol_value(&self, rela: &Rela) -> u64
-        requires { AreNumbersOf self.now.resolution.now.rows self.now.object.now self.now.numbers.now.entries }
-        ensures { (r : Resolved) → IsLinkOf self.now.resolution.now self.now.values.now self.now.placement.now r → IsObjectOf r.inputs self.now.input self.now.object.now → result ≡ (numbers_of r self.now.placement.now (reference_in r self.now.input self.now.object.now self.now.section rela.now)).s }
-    {
-        let symbol = symbol_of(rela);
-        match self.numbers.get(&symbol) {
-            Some(name) => self.values.value_of_name(*name),
-            None => {
-                let local = self.object.local(symbol);
-                self.values.value_of_local(self.input, &local)
-            }
-        }
-    }
-
-    /// The fault of one of its relocations, which has the place and the addend of these numbers, a symbol with this
-    /// value, and a value that does not fit its field.
+    /// The fault of one of its relocations, which has the place, the symbol and the addend of these numbers, and a value
+    /// that does not fit its field.
     pub(crate) fn overflow(
         &self,
         alloc: Global,
         rela: &Rela,
         numbers: Numbers,
-        symbol: u64,
         value: u64,
     ) -> Result<Fault, NoMemory>
-        ensures { IfOk result (λ fault. fault ≡ overflow_at (get_or self.now.resolution.now.paths self.now.input []) self.now.section rela.now.r_offset numbers.p symbol numbers.a value) }
+        ensures { IfOk result (λ fault. fault ≡ overflow_at (get_or self.now.resolution.now.paths self.now.input []) self.now.section rela.now.r_offset numbers.p numbers.s numbers.a value) }
     {
         let site = Site {
             path: path_of(alloc, self.resolution, self.input)?,
@@ -112,7 +103,7 @@ impl<'a> ObjectSection<'a> {
         Ok(Fault::Overflow {
             site,
             p: numbers.p,
-            s: symbol,
+            s: numbers.s,
             a: numbers.a,
             value,
         })

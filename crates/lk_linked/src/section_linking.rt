@@ -12,14 +12,14 @@ ghost use Rattle.lk_linked.specs.Fields.{all_filled};
 ghost use Rattle.lk_linked.specs.HeldObjects.{IsObjectOf};
 ghost use Rattle.lk_linked.specs.Links.{IsLinkOf};
 ghost use Rattle.lk_linked.specs.References.{references_by};
-ghost use Rattle.lk_linked.specs.PieceLists.{is_listed, sections_of};
+ghost use Rattle.lk_linked.specs.PieceLists.{AreMarksOf, is_listed};
 ghost use Rattle.lk_linked.specs.Places.{place_in, written_at};
-ghost use Rattle.lk_linked.specs.SymbolNumbers.{AreNumbersOf};
+ghost use Rattle.lk_linked.specs.SymbolWorths.{IsReady};
 
 use crate::field_filling::{check_fields, fill_fields};
 use crate::object_sections::ObjectSection;
+use crate::piece_marks::{PieceMarks, is_marked};
 use crate::piece_places::place_in;
-use indexmap::IndexSet;
 use lk_elf::Rela;
 use lk_model::layouts::PieceRow;
 use lk_report::{FaultList, NoMemory};
@@ -34,7 +34,7 @@ fn fill_part(
     relas: &[Rela],
     faults: &mut FaultList,
 ) -> Result<(), NoMemory>
-    requires numbered { AreNumbersOf section.now.resolution.now.rows section.now.object.now section.now.numbers.now.entries }
+    requires ready { IsReady section.now.values.now section.now.input section.now.section section.now.object.now section.now.worths.now.items section.now.start }
     requires alike { length bytes.now ≡ length part.old }
     requires within { All (λ rela. rela.r_offset + width_of (code_of_rela rela) ≤ length bytes.now) relas.now }
     ensures filled { (r : Resolved) → IsLinkOf section.now.resolution.now section.now.values.now section.now.placement.now r → IsObjectOf r.inputs section.now.input section.now.object.now → OnOk result (part.new ≡ all_filled r section.now.placement.now bytes.now (references_by r section.now.input section.now.object.now section.now.section relas.now)) }
@@ -54,7 +54,7 @@ fn fill_at(
     relas: &[Rela],
     faults: &mut FaultList,
 ) -> Result<(), NoMemory>
-    requires numbered { AreNumbersOf section.now.resolution.now.rows section.now.object.now section.now.numbers.now.entries }
+    requires ready { IsReady section.now.values.now section.now.input section.now.section section.now.object.now section.now.worths.now.items section.now.start }
     requires within { All (λ rela. rela.r_offset + width_of (code_of_rela rela) ≤ length bytes.now) relas.now }
     requires inside { at + length bytes.now ≤ length image.old }
     ensures filled { (r : Resolved) → IsLinkOf section.now.resolution.now section.now.values.now section.now.placement.now r → IsObjectOf r.inputs section.now.input section.now.object.now → OnOk result (image.new ≡ patch image.old at (all_filled r section.now.placement.now bytes.now (references_by r section.now.input section.now.object.now section.now.section relas.now))) }
@@ -73,7 +73,7 @@ fn link_section(
     image: &mut [u8],
     faults: &mut FaultList,
 ) -> Result<(), NoMemory>
-    requires numbered { AreNumbersOf section.now.resolution.now.rows section.now.object.now section.now.numbers.now.entries }
+    requires ready { IsReady section.now.values.now section.now.input section.now.section section.now.object.now section.now.worths.now.items section.now.start }
     requires piece { IsTrue (is_piece_in (elf_of section.now.object.now) section.now.section) }
     ensures linked { (r : Resolved) → IsLinkOf section.now.resolution.now section.now.values.now section.now.placement.now r → IsObjectOf r.inputs section.now.input section.now.object.now → OnOk result (image.new ≡ written_at image.old (place_in section.now.placement.now (length image.old) piece.now (length (piece_bytes_in (elf_of section.now.object.now) section.now.section))) (all_filled r section.now.placement.now (piece_bytes_in (elf_of section.now.object.now) section.now.section) (references_by r section.now.input section.now.object.now section.now.section (relocations_in (elf_of section.now.object.now) section.now.section)))) }
     ensures told { (r : Resolved) → IsLinkOf section.now.resolution.now section.now.values.now section.now.placement.now r → IsObjectOf r.inputs section.now.input section.now.object.now → OnOk result (faults.new ≡ faults.old ++ overflows r section.now.placement.now (references_by r section.now.input section.now.object.now section.now.section (relocations_in (elf_of section.now.object.now) section.now.section))) }
@@ -93,17 +93,17 @@ fn link_section(
 pub(crate) fn link_piece(
     alloc: Global,
     section: &ObjectSection<'_>,
-    pieces: &IndexSet<u32>,
+    marks: &PieceMarks,
     piece: &PieceRow,
     image: &mut [u8],
     faults: &mut FaultList,
 ) -> Result<(), NoMemory>
-    requires numbered { AreNumbersOf section.now.resolution.now.rows section.now.object.now section.now.numbers.now.entries }
-    requires pieces { pieces.now.keys ≡ sections_of (summary_in (elf_of section.now.object.now)).pieces }
+    requires ready { IsReady section.now.values.now section.now.input section.now.section section.now.object.now section.now.worths.now.items section.now.start }
+    requires marks { AreMarksOf marks.now.items (summary_in (elf_of section.now.object.now)).pieces }
     ensures linked { (r : Resolved) → IsLinkOf section.now.resolution.now section.now.values.now section.now.placement.now r → IsObjectOf r.inputs section.now.input section.now.object.now → is_listed section.now.section (summary_in (elf_of section.now.object.now)).pieces ≡ true → OnOk result (image.new ≡ written_at image.old (place_in section.now.placement.now (length image.old) piece.now (length (piece_bytes_in (elf_of section.now.object.now) section.now.section))) (all_filled r section.now.placement.now (piece_bytes_in (elf_of section.now.object.now) section.now.section) (references_by r section.now.input section.now.object.now section.now.section (relocations_in (elf_of section.now.object.now) section.now.section)))) }
     ensures told { (r : Resolved) → IsLinkOf section.now.resolution.now section.now.values.now section.now.placement.now r → IsObjectOf r.inputs section.now.input section.now.object.now → is_listed section.now.section (summary_in (elf_of section.now.object.now)).pieces ≡ true → OnOk result (faults.new ≡ faults.old ++ overflows r section.now.placement.now (references_by r section.now.input section.now.object.now section.now.section (relocations_in (elf_of section.now.object.now) section.now.section))) }
 {
-    if pieces.contains(&section.section) {
+    if is_marked(marks, section.section) {
         link_section(alloc, section, piece, image, faults)
     } else {
         Ok(())

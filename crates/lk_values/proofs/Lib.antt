@@ -7,6 +7,7 @@ pub mod NamesValued
 pub mod ValuesFound
 pub mod MadeGiven
 pub mod ValuesGiven
+pub mod NumbersTold
 pub mod LowNumbers
 pub mod Lists
 pub mod Ends

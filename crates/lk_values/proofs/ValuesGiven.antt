@@ -27,9 +27,8 @@ use Rattle.lk_table_sizes.specs.Given.{input_summary}
 use Rattle.lk_values.specs.InputSymbols.{has_number, symbol_in}
 use Rattle.lk_values.specs.NameValues.{call_in, given_in, held_by, made_by, size_in, value_in}
 use Rattle.lk_values.specs.Sections.{low_64}
-use Rattle.lk_values.specs.Worth.{Known, content_of, low_numbers, numbers_by, reference_by, value_at, value_with}
+use Rattle.lk_values.specs.Worth.{Known, content_of, owner_slot, value_at, value_with, worth_by, worth_of}
 use Rattle.lk_values.specs.declared.name_values.SymbolValue.{SymbolValue}
-use Rattle.lk_values.specs.declared.values.Relocation.{Relocation}
 use Rattle.lk_values.proofs.MadeGiven.{made_told}
 
 abbrev pub winner_with : Option NameRow → Winner
@@ -160,27 +159,18 @@ module _ (known : Known) (needs : Needs) (options : OptionRecord) (r : Resolved)
   pub value_of_name : (n : ℕ) → (value_at known n).value ≡ low_64 (name_value r known.place n)
   value_of_name n = (name_tells n).value
 
-  edge_low : (b : Bool) (x : ℕ) → block_edge b (low_64 x) ≡ low_64 (block_edge b x)
-  edge_low true x = refl
-  edge_low false x = refl
-
-  -- the numbers of a relocation through a name
-  pub name_numbers_told : (place : Placement) → place ≡ known.place → (x : Relocation) (v : SymbolValue) (n : ℕ) → v ≡ value_at known n → (thread : Bool) → thread ≡ is_thread_slot x.code → (weak : Bool)
-      → numbers_by place x v (record { owner = owner.Global n; thread = thread }) ≡ low_numbers (numbers_of r known.place (reference_by x (ByName n weak)))
-  name_numbers_told place here x v n is thread slot weak =
+  -- what a name is worth to the relocations through it
+  pub name_worth_told : (place : Placement) → place ≡ known.place → (v : SymbolValue) (n : ℕ) → v ≡ value_at known n → (input : ℕ) (weak : Bool) → worth_by place v (owner.Global n) ≡ worth_of r known.place input (ByName n weak)
+  name_worth_told place here v n is input weak =
       let t = name_tells n in
-      let edge = ap (λ b. block_edge b (low_64 (tls_end known.place))) t.placed ∙ edge_low (is_placed_winner (winner_of_name r n)) (tls_end known.place) in
-      (λ i. numbers_by (here i) x (is i) (record { owner = owner.Global n; thread = slot i }))
+      (λ i. worth_by (here i) (is i) (owner.Global n))
       ∙ (λ i. record {
-        s = t.value i;
-        a = x.addend;
-        p = section_address known.place x.input x.section x.offset;
-        l = t.call i;
-        slot = low_64 (slot_address known.place (record { owner = owner.Global n; thread = is_thread_slot x.code }));
-        got = got_address known.place;
-        z = t.size i;
-        tls_start = block_edge (t.placed i) (tls_start known.place);
-        tls_end = edge i;
+        value = t.value i;
+        call = t.call i;
+        size = t.size i;
+        placed = t.placed i;
+        slot = owner_slot known.place (owner.Global n) false;
+        thread_slot = owner_slot known.place (owner.Global n) true;
       })
 
   minus_low : (a b : ℕ) → minus (low_64 a) (low_64 b) ≡ low_64 (minus a b)

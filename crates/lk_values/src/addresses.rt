@@ -107,7 +107,7 @@ impl<'a> Addresses<'a> {
     }
 
     /// The address of a piece that is placed.
-    fn piece(&self, piece: PieceId) -> Option<u64>
+    pub(crate) fn piece(&self, piece: PieceId) -> Option<u64>
         ensures { result ≡ option_map address_of_piece (piece_row_of self.now piece) }
     {
         address_of(&self.pieces, piece)

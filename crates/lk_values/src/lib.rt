@@ -3,10 +3,11 @@
 //!
 //! What resolution settled comes in (`Resolution`), with the summaries of the inputs and a placement, which may
 //! be a full one or that of an update. `Values::new` looks at each name, piece and slot once; then each question
-//! is answered by look-ups by number or by hash: where an offset of an input section stands
-//! (`section_address`), the numbers of a relocation through a name or a LOCAL symbol (`name_numbers`,
-//! `local_numbers`), the value of a symbol as a fault tells it (`value_of_name`, `value_of_local`), what a GOT slot
-//! holds (`name_slot`, `local_slot`), and where the program begins (`entry`).
+//! is answered by look-ups by number or by hash: where a section of an input begins (`piece_start`), what a name or a
+//! LOCAL symbol is worth to the relocations through it (`name_worth`, `local_worth`), what a GOT slot holds
+//! (`name_slot`, `local_slot`), and where the program begins (`entry`). The first is asked once for each section, the
+//! second once for each symbol of an object; from these the numbers of each relocation (`place_at`, `numbers`) are
+//! found without a look-up.
 //!
 //! The contracts cite lk_model's definitions over what it resolves of the inputs of a command, wherever the
 //! arguments are given by the same inputs (`IsGiven` of lk_table_sizes) and the placement is lawful (`Lawful`).
@@ -26,4 +27,4 @@ mod slot_numbers;
 mod values;
 
 pub use laws::{low_numbers_serve, places_are_exact};
-pub use values::{Relocation, Values};
+pub use values::{Relocation, SymbolWorth, Values, place_at};

@@ -1,7 +1,7 @@
 //! What each name is worth at a placement (gABI "Symbol Table"; psABI x86-64 "Relocation Types").
 
 ghost use Rattle.std.specs.Prelude.{◌≡◌, ℕ, ◌++◌, ◌<◌, ◌^◌, length, slice_get, IfOk, OnOk};
-ghost use Rattle.lk_model.specs.SymbolValues.{is_placed_winner};
+ghost use Rattle.lk_model.specs.SymbolValues.{home_value, is_placed_winner};
 ghost use Rattle.lk_values.specs.NameValues.{call_in, definition_in, given_at, given_in, held_by, local_value_of, made_by, size_in, symbol_size_in, value_by, value_of_winner, values_at, values_from};
 ghost use Rattle.lk_values.specs.Sections.{low_64};
 
@@ -214,9 +214,10 @@ pub(crate) fn name_values(
     Ok(values)
 }
 
-/// What a LOCAL symbol of an input is worth.
+/// What a LOCAL symbol of an input is worth; its value is a number that a field holds.
 pub(crate) fn local_value(addresses: &Addresses<'_>, input: u32, local: &Local) -> SymbolValue
-    ensures { result ≡ local_value_of addresses.now input local.now }
+    ensures worth { result ≡ local_value_of addresses.now input local.now }
+    ensures exact { result.value ≡ home_value addresses.now input local.now.home local.now.value }
 {
     let value = exact(addresses.home_value(input, local.home, local.value));
     SymbolValue {

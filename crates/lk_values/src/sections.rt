@@ -33,7 +33,8 @@ pub(crate) fn low_64(n: u128) -> u64
 
 /// A number that a field of eight bytes holds, which its low bits are.
 pub(crate) fn exact(n: u64) -> u64
-    ensures { result ≡ low_64 n }
+    ensures low { result ≡ low_64 n }
+    ensures same { result ≡ n }
 {
     n
 }

@@ -1,27 +1,29 @@
 //! What symbols are worth at a placement, and the numbers of a relocation (psABI x86-64 "Relocation Types").
 
 ghost use Rattle.std.specs.Prelude.{◌≡◌, ℕ, ◌<◌, ◌≤◌, ◌^◌, slice_get, Bool, List, Some, IfOk};
+ghost use Rattle.std.specs.Option.{option_copied};
 ghost use Rattle.lk_report.specs.declared.causes.OptionRecord.{OptionRecord};
 ghost use Rattle.lk_model.specs.FileHeader.{entry_value};
 ghost use Rattle.lk_model.specs.FullPlace.{memory_of};
 ghost use Rattle.lk_model.specs.Lawful.{Lawful};
 ghost use Rattle.lk_model.specs.Resolving.{resolve};
-ghost use Rattle.lk_model.specs.SymbolValues.{block_edge, is_thread_slot, local_of, local_value, name_value, numbers_of, section_address, slot_value};
-ghost use Rattle.lk_model.specs.Views.{Input, Resolved};
+ghost use Rattle.lk_model.specs.SymbolValues.{block_edge, is_thread_slot, local_of, local_value, name_value, numbers_of, slot_value};
+ghost use Rattle.lk_model.specs.Views.{Input, Ref, Resolved};
 ghost use Rattle.lk_model.specs.Views.Through.{ByLocal, ByName};
 ghost use Rattle.lk_model.specs.declared.layouts.GotOwner.TheVariants as owner;
 ghost use Rattle.lk_model.specs.declared.layouts.Needs.{Needs};
 ghost use Rattle.lk_table_sizes.specs.Given.{IsGiven};
+ghost use Rattle.lk_values.specs.InputSymbols.{symbol_in};
 ghost use Rattle.lk_values.specs.NameValues.{given_at};
 ghost use Rattle.lk_values.specs.Sections.{low_64};
-ghost use Rattle.lk_values.specs.Worth.{content_of, low_numbers, numbers_by, reference_by, value_at, value_or_nothing};
+ghost use Rattle.lk_values.specs.Worth.{content_of, low_numbers, numbers_by, owner_slot, piece_start, place_at, relocation_of, slot_by, value_at, value_or_nothing, worth_by, worth_of};
 
 use crate::addresses::Addresses;
 use crate::input_symbols::InputSymbols;
 use crate::made_values::MadeValues;
 use crate::name_values::{SymbolValue, SymbolValueList, local_value, name_values};
-use lk_model::layouts::{GotKey, GotOwner, Numbers, Placement};
-use lk_model::summaries::{Local, SummaryList};
+use lk_model::layouts::{GotKey, GotOwner, Numbers, PieceId, Placement};
+use lk_model::summaries::{Global as Symbol, Local, SummaryList};
 use lk_report::{Name, NoMemory};
 use lk_resolve::Resolution;
 use std::alloc::Global;
@@ -30,18 +32,32 @@ use std::marker::Model;
 /// The relocation whose GOT slot holds a thread offset: `R_X86_64_GOTTPOFF`.
 const GOTTPOFF: u32 = 22;
 
-/// A relocation of a section of an input (gABI "Relocation").
+/// A relocation at its place (gABI "Relocation").
 #[derive(Clone, Copy)]
 pub struct Relocation {
-    /// The input's number.
-    pub input: u32,
-    /// The number of the section that has the field.
-    pub section: u32,
-    /// The field's offset in the section, in bytes.
-    pub offset: u64,
+    /// The address of its field, P; 0 in a section that is no piece that is placed.
+    pub address: u64,
     /// The relocation type.
     pub code: u32,
     pub addend: i64,
+}
+
+/// What a symbol is worth to the relocations through it, by the low bits of each number. It is the same for all of
+/// them, so that it is found once for each symbol of an object.
+#[derive(Clone, Copy)]
+pub struct SymbolWorth {
+    /// The symbol's value, S.
+    pub value: u64,
+    /// The address of its PLT entry, where it is an import with one, and S otherwise: L.
+    pub call: u64,
+    /// Its size in bytes, Z.
+    pub size: u64,
+    /// Whether it has a place in the image.
+    pub placed: bool,
+    /// The address of the GOT slot that holds its value; 0 where there is none.
+    pub slot: u64,
+    /// The address of the GOT slot that holds its thread offset; 0 where there is none.
+    pub thread_slot: u64,
 }
 
 /// What a name is worth that is not there.
@@ -58,7 +74,7 @@ const NOTHING: SymbolValue = SymbolValue {
 #[derive(Drop)]
 pub struct Values<'a> {
     resolution: &'a Resolution,
-    inputs: &'a SummaryList,
+    symbols: InputSymbols<'a>,
     addresses: Addresses<'a>,
     names: SymbolValueList,
 }
@@ -68,9 +84,9 @@ impl<'a> Model for Values<'a> {
 
     ghost Value = { Known };
 
-    ghost view = { λ v. record { settled = v.resolution.now; summaries = v.inputs.now; place = v.addresses } };
+    ghost view = { λ v. record { settled = v.resolution.now; summaries = v.symbols; place = v.addresses } };
 
-    ghost invariant = { λ v. AreValues v.names v.resolution.now.rows v.inputs.now v.addresses };
+    ghost invariant = { λ v. AreValues v.names v.resolution.now.rows v.symbols v.addresses };
 }
 
 /// Where the thread-local block that a symbol's offset is counted from begins or ends, 0 for a symbol
@@ -96,25 +112,63 @@ fn content_of(addresses: &Addresses<'_>, thread: bool, value: SymbolValue) -> u6
     }
 }
 
-/// The numbers of a relocation through a symbol with this value and this GOT key.
-fn numbers_by(
-    addresses: &Addresses<'_>,
-    relocation: &Relocation,
-    value: SymbolValue,
-    key: GotKey,
-) -> Numbers
-    ensures { result ≡ numbers_by addresses.now relocation.now value key }
+/// The low bits of the address of the GOT slot of an owner, for its value or for its thread offset; 0 where there is
+/// none.
+fn slot_of(addresses: &Addresses<'_>, owner: GotOwner, thread: bool) -> u64
+    ensures { result ≡ owner_slot addresses.now owner thread }
+{
+    addresses.slot_address(GotKey { owner, thread })
+}
+
+/// What a symbol with this value is worth, which has the GOT slots of this owner.
+fn worth_by(addresses: &Addresses<'_>, value: SymbolValue, owner: GotOwner) -> SymbolWorth
+    ensures { result ≡ worth_by addresses.now value owner }
+{
+    SymbolWorth {
+        value: value.value,
+        call: value.call,
+        size: value.size,
+        placed: value.placed,
+        slot: slot_of(addresses, owner, false),
+        thread_slot: slot_of(addresses, owner, true),
+    }
+}
+
+/// The address of the GOT slot that a relocation of this type goes through.
+fn slot_by(code: u32, worth: &SymbolWorth) -> u64
+    ensures { result ≡ slot_by code worth.now }
+{
+    if is_thread_slot(code) {
+        worth.thread_slot
+    } else {
+        worth.slot
+    }
+}
+
+/// The numbers of a relocation through a symbol that is worth this.
+fn numbers_by(addresses: &Addresses<'_>, relocation: &Relocation, worth: &SymbolWorth) -> Numbers
+    ensures { result ≡ numbers_by addresses.now relocation.now worth.now }
 {
     Numbers {
-        s: value.value,
+        s: worth.value,
         a: relocation.addend,
-        p: addresses.section_address(relocation.input, relocation.section, relocation.offset),
-        l: value.call,
-        slot: addresses.slot_address(key),
+        p: relocation.address,
+        l: worth.call,
+        slot: slot_by(relocation.code, worth),
         got: addresses.got_address(),
-        z: value.size,
-        tls_start: block_edge(value.placed, addresses.tls_start()),
-        tls_end: block_edge(value.placed, addresses.tls_end()),
+        z: worth.size,
+        tls_start: block_edge(worth.placed, addresses.tls_start()),
+        tls_end: block_edge(worth.placed, addresses.tls_end()),
+    }
+}
+
+/// The address of an offset in a section that begins there; 0 where the section is no piece that is placed.
+pub fn place_at(start: Option<u64>, offset: u64) -> u64
+    ensures { result ≡ place_at start offset }
+{
+    match start {
+        None => 0,
+        Some(start) => start.wrapping_add(offset),
     }
 }
 
@@ -154,17 +208,32 @@ impl<'a> Values<'a> {
         let names = name_values(alloc, &addresses, &made, &symbols, resolution.names())?;
         Ok(Values {
             resolution,
-            inputs,
+            symbols,
             addresses,
             names,
         })
     }
 
-    /// The address of an offset in a section of an input; 0 where the section is no piece that is placed.
-    pub fn section_address(&self, input: u32, section: u32, offset: u64) -> u64
-        ensures { result ≡ section_address self.now.place input section offset }
+    /// What is settled of the link.
+    pub fn resolution(&self) -> &Resolution
+        ensures { result.now ≡ self.now.settled }
     {
-        self.addresses.section_address(input, section, offset)
+        self.resolution
+    }
+
+    /// A symbol of an input that is not LOCAL, by its number.
+    pub fn global(&self, input: u32, symbol: u32) -> Option<&Symbol>
+        ensures { option_copied result ≡ symbol_in self.now.summaries input symbol }
+    {
+        self.symbols.symbol(input, symbol)
+    }
+
+    /// Where a section of an input begins, where it is a piece that is placed. By `place_at` it tells the address of
+    /// each offset in the section.
+    pub fn piece_start(&self, input: u32, section: u32) -> Option<u64>
+        ensures { result ≡ piece_start self.now.place input section }
+    {
+        self.addresses.piece(PieceId::Section { input, section })
     }
 
     /// What the name with a number is worth. Fields hold what inputs and placed pieces tell of it.
@@ -175,44 +244,33 @@ impl<'a> Values<'a> {
         value_or_nothing(self.names.as_slice(), number)
     }
 
-    /// The value of the name with a number, S, as it is: at a placement that the link may have, within the limit on
-    /// memory, it is a number that a field holds.
-    pub fn value_of_name(&self, name: u32) -> u64
-        ensures { (needs : Needs) (options : OptionRecord) (xs : List Input) → IsGiven self.now.settled self.now.summaries needs options xs → Lawful (resolve options xs) self.now.place → memory_of self.now.place ≤ 2 ^ 31 → result ≡ name_value (resolve options xs) self.now.place name }
+    /// What the name with a number is worth to the relocations through it: lk_model's numbers, where the placement is
+    /// one that the link may have. Within the limit on memory its value is S as it is.
+    pub fn name_worth(&self, name: u32) -> SymbolWorth
+        ensures worth { (needs : Needs) (options : OptionRecord) (xs : List Input) → IsGiven self.now.settled self.now.summaries needs options xs → Lawful (resolve options xs) self.now.place → (input : ℕ) (weak : Bool) → result ≡ worth_of (resolve options xs) self.now.place input (ByName name weak) }
+        ensures exact { (needs : Needs) (options : OptionRecord) (xs : List Input) → IsGiven self.now.settled self.now.summaries needs options xs → Lawful (resolve options xs) self.now.place → memory_of self.now.place ≤ 2 ^ 31 → result.value ≡ name_value (resolve options xs) self.now.place name }
     {
-        self.name_value(name).value
+        let value = self.name_value(name);
+        worth_by(&self.addresses, value, GotOwner::Global(name))
     }
 
-    /// The value of a LOCAL symbol of an input, S, as it is, at any placement; `local` is what the input tells of that
-    /// symbol.
-    pub fn value_of_local(&self, input: u32, local: &Local) -> u64
-        ensures { (r : Resolved) (symbol : ℕ) → local.now ≡ local_of r input symbol → result ≡ local_value r self.now.place input symbol }
+    /// What the LOCAL symbol with a number of an input is worth to the relocations through it, at any placement; `local`
+    /// is what the input tells of that symbol. Its value is S as it is.
+    pub fn local_worth(&self, input: u32, symbol: u32, local: &Local) -> SymbolWorth
+        ensures worth { (r : Resolved) → local.now ≡ local_of r input symbol → result ≡ worth_of r self.now.place input (ByLocal symbol) }
+        ensures exact { (r : Resolved) → local.now ≡ local_of r input symbol → result.value ≡ local_value r self.now.place input symbol }
     {
-        self.addresses.home_value(input, local.home, local.value)
-    }
-
-    /// The numbers of a relocation through the name with a number, by their low 64 bits. They are lk_model's where
-    /// the placement is one that the link may have.
-    pub fn name_numbers(&self, relocation: &Relocation, name: u32) -> Numbers
-        ensures { (needs : Needs) (options : OptionRecord) (xs : List Input) → IsGiven self.now.settled self.now.summaries needs options xs → Lawful (resolve options xs) self.now.place → (weak : Bool) → result ≡ low_numbers (numbers_of (resolve options xs) self.now.place (reference_by relocation.now (ByName name weak))) }
-    {
-        let owner = GotOwner::Global(name);
-        let thread = is_thread_slot(relocation.code);
-        let key = GotKey { owner, thread };
-        numbers_by(&self.addresses, relocation, self.name_value(name), key)
-    }
-
-    /// The numbers of a relocation through the LOCAL symbol with a number of its own input, by their low 64 bits;
-    /// `local` is what the input tells of that symbol.
-    pub fn local_numbers(&self, relocation: &Relocation, symbol: u32, local: &Local) -> Numbers
-        ensures { (r : Resolved) → local.now ≡ local_of r relocation.now.input symbol → result ≡ low_numbers (numbers_of r self.now.place (reference_by relocation.now (ByLocal symbol))) }
-    {
-        let input = relocation.input;
-        let owner = GotOwner::Local { input, symbol };
-        let thread = is_thread_slot(relocation.code);
-        let key = GotKey { owner, thread };
         let value = local_value(&self.addresses, input, local);
-        numbers_by(&self.addresses, relocation, value, key)
+        worth_by(&self.addresses, value, GotOwner::Local { input, symbol })
+    }
+
+    /// The numbers of a relocation through a symbol that is worth this, by their low 64 bits: those of the reference
+    /// that the relocation is, where this is what lk_model says that its symbol is worth.
+    pub fn numbers(&self, relocation: &Relocation, worth: &SymbolWorth) -> Numbers
+        ensures by_parts { result ≡ numbers_by self.now.place relocation.now worth.now }
+        ensures told { (r : Resolved) (ref : Ref) → relocation.now ≡ relocation_of self.now.place ref → worth.now ≡ worth_of r self.now.place ref.input ref.through → result ≡ low_numbers (numbers_of r self.now.place ref) }
+    {
+        numbers_by(&self.addresses, relocation, worth)
     }
 
     /// What the GOT slot of a name holds, by its low 64 bits: its value, or its offset from the end of the

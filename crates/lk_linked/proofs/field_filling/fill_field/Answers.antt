@@ -6,22 +6,22 @@ pub returns-in-Ok-clause-filled : goal.returns-in-Ok-clause-filled
 returns-in-Ok-clause-filled c = λ r link object.
     let s = c.args.section.now in
     filled_ok r s.placement.now (reference_in r s.input s.object.now s.section c.args.rela.now) c.code_of-code.result c.code_of-code.ensures c.relocation_numbers-numbers.result c.value-value.result
-    (c.relocation_numbers-numbers.ensures r link object) c.value-value.ensures c.args.at c.args.bytes.now c.apply.new.bytes c.in-Ok.ensures.fits c.in-Ok.ensures.written
+    (c.relocation_numbers-numbers.ensures.numbers r link object) c.value-value.ensures c.args.at c.args.bytes.now c.apply.new.bytes c.in-Ok.ensures.fits c.in-Ok.ensures.written
 
 pub returns-in-Ok-clause-told : goal.returns-in-Ok-clause-told
 returns-in-Ok-clause-told c = λ r link object.
     let s = c.args.section.now in
     told_ok r s.placement.now (reference_in r s.input s.object.now s.section c.args.rela.now) c.code_of-code.result c.code_of-code.ensures c.relocation_numbers-numbers.result c.value-value.result
-    (c.relocation_numbers-numbers.ensures r link object) c.value-value.ensures c.args.faults.now c.in-Ok.ensures.fits
+    (c.relocation_numbers-numbers.ensures.numbers r link object) c.value-value.ensures c.args.faults.now c.in-Ok.ensures.fits
 
 pub returns-in_ok-tell_overflow-in-Err-clause-filled : goal.returns-in_ok-tell_overflow-in-Err-clause-filled
 returns-in_ok-tell_overflow-in-Err-clause-filled c = λ r link object.
     let s = c.args.section.now in
     filled_not r s.placement.now (reference_in r s.input s.object.now s.section c.args.rela.now) c.code_of-code.result c.code_of-code.ensures c.relocation_numbers-numbers.result c.value-value.result
-    (c.relocation_numbers-numbers.ensures r link object) c.value-value.ensures c.args.at c.args.bytes.now c.apply.new.bytes c.in-Err.ensures.fits c.in-Err.ensures.unchanged
+    (c.relocation_numbers-numbers.ensures.numbers r link object) c.value-value.ensures c.args.at c.args.bytes.now c.apply.new.bytes c.in-Err.ensures.fits c.in-Err.ensures.unchanged
 
 pub returns-in_ok-tell_overflow-in-Err-clause-told : goal.returns-in_ok-tell_overflow-in-Err-clause-told
 returns-in_ok-tell_overflow-in-Err-clause-told c = λ r link object.
     let s = c.args.section.now in
     told_not r s.placement.now (reference_in r s.input s.object.now s.section c.args.rela.now) c.code_of-code.result c.code_of-code.ensures c.relocation_numbers-numbers.result c.value-value.result
-    (c.relocation_numbers-numbers.ensures r link object) c.value-value.ensures c.args.faults.now c.tell_overflow.new.faults c.in-Err.refused.value c.in-Err.ensures.fits c.in-Err.ensures.told (c.in_ok-tell_overflow-in-Err.ensures r link object)
+    (c.relocation_numbers-numbers.ensures.numbers r link object) c.value-value.ensures c.args.faults.now c.tell_overflow.new.faults c.in-Err.refused.value c.in-Err.ensures.fits c.in-Err.ensures.told (c.relocation_numbers-numbers.ensures.exact r link object) (c.in_ok-tell_overflow-in-Err.ensures r link)

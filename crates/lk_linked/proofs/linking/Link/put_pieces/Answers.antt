@@ -11,7 +11,7 @@ use Rattle.lk_linked.proofs.linking.Link.put_pieces.Goals as goal
 
 pub loop-piece-init : goal.loop-piece-init
 loop-piece-init c = record {
-  current = c.none-current.ensures c.args.self.now.resolution.now.rows c.args.self.now.objects.now;
+  current = c.none-current.ensures c.args.self.now.values.now c.args.self.now.objects.now;
   put = λ r link known within. refl;
   told = λ r link known. refl;
 }

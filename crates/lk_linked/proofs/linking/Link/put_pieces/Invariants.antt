@@ -2,7 +2,7 @@ use Rattle.std.proofs.Common.{◌≡◌, ◌++◌, ◌≤◌, drop, fold, length
 use Rattle.std.specs.List.{AllByRecursion}
 use Rattle.lk_model.specs.FullPlace.{tail_start}
 use Rattle.lk_model.specs.Views.{Resolved}
-use Rattle.lk_linked.specs.Current.{AreCurrent}
+use Rattle.lk_linked.specs.ObjectTables.{AreCurrent}
 use Rattle.lk_linked.specs.Faults.{overflows}
 use Rattle.lk_linked.specs.Links.{IsLinkOf}
 use Rattle.lk_linked.specs.Places.{KnownPiece, with_piece}
@@ -11,7 +11,7 @@ use Rattle.lk_linked.proofs.linking.Link.put_pieces.Given as goal
 
 abbrev pub invariant-loop-piece : goal.invariant-loop-piece
 invariant-loop-piece l = record {
-  current : AreCurrent l.self.resolution.now.rows l.self.objects.now l.current.input l.current.numbers.entries l.current.pieces.keys;
+  current : AreCurrent l.self.values.now l.self.objects.now l.current.input l.current.worths.items l.current.marks.items;
   put : (r : Resolved) → IsLinkOf l.self.resolution.now l.self.values.now l.self.placement.now r → AllByRecursion (KnownPiece l.self.objects.now r l.self.placement.now) l.pieces → tail_start l.self.placement.now ≤ length l.initial.image
       → fold (with_piece r l.self.placement.now) l.image (drop l.piece-index l.pieces) ≡ fold (with_piece r l.self.placement.now) l.initial.image l.pieces;
   told : (r : Resolved) → IsLinkOf l.self.resolution.now l.self.values.now l.self.placement.now r → AllByRecursion (KnownPiece l.self.objects.now r l.self.placement.now) l.pieces

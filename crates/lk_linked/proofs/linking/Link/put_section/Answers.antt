@@ -4,6 +4,15 @@ use Rattle.lk_linked.proofs.PiecePut.{known_listed, known_object, known_there}
 use Rattle.lk_linked.proofs.PlacesTold.{piece_put, references_are}
 use Rattle.lk_linked.proofs.linking.Link.put_section.Goals as goal
 
+pub link_piece-requires-clause-ready : goal.link_piece-requires-clause-ready
+link_piece-requires-clause-ready c = record {
+  worths_are = (c.requires c.in-Some.object.now (sym c.in-Some.ensures)).worths_are;
+  begins = c.piece_start.ensures;
+}
+
+pub link_piece-requires-clause-marks : goal.link_piece-requires-clause-marks
+link_piece-requires-clause-marks c = (c.requires c.in-Some.object.now (sym c.in-Some.ensures)).marks_are
+
 pub returns-in-None-clause-linked : goal.returns-in-None-clause-linked
 returns-in-None-clause-linked c = λ r link known lies is within. known_there c.args.self.now.objects.now r c.args.input c.args.section known c.in-None.ensures
 

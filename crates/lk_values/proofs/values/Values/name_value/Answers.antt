@@ -8,7 +8,7 @@ pub returns-clause-value : goal.returns-clause-value
 returns-clause-value c =
     c.value_or_nothing.ensures
     ∙ ap (λ l. value_or_nothing (slice_get l c.args.number)) c.as_slice.ensures
-    ∙ value_found c.self.inside.inputs.now c.self.inside.addresses c.self.inside.names c.self.inside.resolution.now.rows c.args.number c.self.invariant.values_are
+    ∙ value_found c.self.inside.symbols c.self.inside.addresses c.self.inside.names c.self.inside.resolution.now.rows c.args.number c.self.invariant.values_are
     ∙ ap (λ (k : Known). value_at k c.args.number) c.self.view_is
 
 pub returns-clause-fits : goal.returns-clause-fits

@@ -1,0 +1,21 @@
+//! Lists by small numbers, which grow where a number is first used. They serve one object after another, so that no
+//! list is allocated anew for each.
+
+ghost use Rattle.std.specs.Prelude.{◌≡◌, ℕ, ◌<◌, length, get_or, OnOk};
+
+use lk_report::NoMemory;
+
+/// Makes a list so long that it has an item with this number; items that are new are `empty`, as those past the end
+/// count.
+pub(crate) fn make_room<T: Copy>(items: &mut Vec<T>, number: u32, empty: T) -> Result<(), NoMemory>
+    ensures room { OnOk result (number < length items.new.items) }
+    ensures same { OnOk result ((k : ℕ) → get_or items.new.items k empty ≡ get_or items.old.items k empty) }
+{
+    if (number as usize) < items.len() {
+        return Ok(());
+    }
+    match items.resize(number as usize + 1, empty) {
+        Ok(()) => Ok(()),
+        Err(_) => Err(NoMemory),
+    }
+}
