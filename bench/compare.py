@@ -9,7 +9,7 @@
 README.md beside this file says what the columns are. Ends with 1 where a link failed, where a program did not end as
 it must, or where a bar (docs/PERFORMANCE.md) is missed. Needs python3 alone.
 """
-import argparse, collections, os, platform, shutil, statistics, subprocess, sys, tempfile, time
+import argparse, collections, os, platform, random, shutil, statistics, subprocess, sys, tempfile, time
 
 sys.dont_write_bytecode = True     # a run leaves the checkout as it was
 from elf import Run, apart, timed
@@ -18,6 +18,7 @@ from programs import STATUS, make_large, make_small
 HERE = os.path.dirname(os.path.abspath(__file__))
 OURS, GOLD, LLD = 'lk_ld', 'gold', 'lld, 1 thread'
 FLOOR, SYNC = 'floor', 'one sync'
+TIMES = 5       # links of a small program by a linker that bars compare, in one round
 
 Linker = collections.namedtuple('Linker', 'name program options package')
 OTHERS = (
@@ -93,6 +94,26 @@ def link(linker, folder, files, image):
     return timed([linker.program] + linker.options + ['-o', image] + files, folder)
 
 
+def median_ratio(these, those):
+    """The median of the ratios of figures round by round, since a machine is faster in one second than in another."""
+    return statistics.median(a / max(b, 1e-9) for a, b in zip(these, those))
+
+
+def one_round(cases, linkers, turn):
+    """The linkers that bars compare link every program, next to one another, small programs several times; then the
+    others link every program once. Orders are drawn anew."""
+    draw = random.Random(turn)
+    near = [linker for linker in linkers if linker.name in (OURS, GOLD, LLD)]
+    others = [linker for linker in linkers if linker.name not in (OURS, GOLD, LLD)]
+    for again in range(TIMES):
+        for case in cases:
+            if case.kind == 'small' or again == 0:
+                case.links(draw.sample(near, len(near)), turn)
+    for case in cases:
+        case.links(draw.sample(others, len(others)), turn)
+        case.bounds(turn)
+
+
 class Case:
     """A program, its inputs in a folder, and the runs of each linker on it."""
 
@@ -106,27 +127,30 @@ class Case:
         self.bytes = sum(os.path.getsize(os.path.join(self.folder, f)) for f in self.files)
         self.runs, self.images, self.good = collections.OrderedDict(), {}, True
 
-    def add(self, name, run):
-        self.runs.setdefault(name, []).append(run)
+    def add(self, name, run, turn):
+        self.runs.setdefault(name, {}).setdefault(turn, []).append(run)
 
-    def round(self, linkers, turn):
-        """Each linker once, another one first in each round; then the floor, for an image as long as ours."""
-        start = turn % len(linkers)
-        for linker in linkers[start:] + linkers[:start]:
-            image = os.path.join(self.folder, 'image')
+    def links(self, linkers, turn):
+        """Each of these linkers once."""
+        image = os.path.join(self.folder, 'image')
+        for linker in linkers:
             run = link(linker, self.folder, self.files, image)
+            self.add(linker.name, run, turn)
             if run.status != 0:
                 print('%s: %s ended with %d: %s' % (self.what, linker.name, run.status, run.said[:300]))
                 self.good = False
-                continue
-            self.add(linker.name, run)
-            if linker.name not in self.images:
+            elif linker.name not in self.images:
                 self.images[linker.name] = os.path.getsize(image)
                 self.check(linker, image)
+        os.path.exists(image) and os.remove(image)
+
+    def bounds(self, turn):
+        """The floor, for an image as long as ours, and a sync of it."""
+        image = os.path.join(self.folder, 'image')
         if OURS in self.images:
             for name, run in zip((FLOOR, SYNC), floor(self.folder, self.files, self.images[OURS], image)):
-                self.add(name, run)
-        os.path.exists(image) and os.remove(image)
+                self.add(name, run, turn)
+            os.remove(image)
 
     def check(self, linker, image):
         """The program runs, and ends as it must."""
@@ -135,16 +159,20 @@ class Case:
             print('%s: the program of %s ended with %d, not with %d' % (self.what, linker.name, status, STATUS))
             self.good = False
 
+    def figures(self, name, field):
+        """One figure a round: the median of its runs."""
+        return [statistics.median(getattr(run, field) for run in runs) for runs in self.runs[name].values()]
+
     def median(self, name, field):
-        return statistics.median(getattr(run, field) for run in self.runs[name])
+        return statistics.median(self.figures(name, field))
 
     def ratio(self, name, other, field):
-        return self.median(name, field) / max(self.median(other, field), 1e-9)
+        """The median over the rounds of the ratio within a round."""
+        return median_ratio(self.figures(name, field), self.figures(other, field))
 
-    def unsynced(self, name):
-        """Seconds by the clock, without the sync that our link has."""
-        sync = self.median(SYNC, 'seconds') if name == OURS else 0.0
-        return self.median(name, 'seconds') - sync
+    def unsynced(self):
+        """Seconds of our links by the clock, without the sync that they have."""
+        return [ours - sync for ours, sync in zip(self.figures(OURS, 'seconds'), self.figures(SYNC, 'seconds'))]
 
     def table(self, linkers):
         print('\n%s: %d inputs, %.1f MB' % (self.what, self.number, self.bytes / 1e6))
@@ -159,9 +187,9 @@ class Case:
                 name, self.median(name, 'processor'), against[0], self.median(name, 'seconds'), against[1],
                 self.median(name, 'peak') / 1024, '%.2f MB' % (size / 1e6) if size else '',
                 '%.2f MB' % (self.median(name, 'written') / 1e6)))
-        spread = ', '.join('%s %.3f to %.3f' % (n, min(r.processor for r in self.runs[n]), max(r.processor for r in self.runs[n]))
+        spread = ', '.join('%s %.3f to %.3f' % (n, min(self.figures(n, 'processor')), max(self.figures(n, 'processor')))
                            for n in names if n in (OURS, GOLD, LLD))
-        print('processor time from least to most: %s' % spread)
+        print('processor time of a round from least to most: %s' % spread)
 
 
 def bar(what, figure, most, must=True):
@@ -178,12 +206,12 @@ def bars(cases):
     small, double = by.get('small:2000'), by.get('small:4000')
     if small and {OURS, GOLD} <= small.runs.keys():
         good &= bar('2,000 small objects, processor time to gold', small.ratio(OURS, GOLD, 'processor'), 1.0)
-        clock = small.unsynced(OURS) / small.median(GOLD, 'seconds')
+        clock = median_ratio(small.unsynced(), small.figures(GOLD, 'seconds'))
         good &= bar('2,000 small objects, clock without the sync to gold', clock, 1.0)
         bar('2,000 small objects, processor time to gold', small.ratio(OURS, GOLD, 'processor'), 0.6, must=False)
         bar('2,000 small objects, peak memory to gold', small.ratio(OURS, GOLD, 'peak'), 1.0, must=False)
     if small and double and OURS in small.runs and OURS in double.runs:
-        figure = double.median(OURS, 'processor') / small.median(OURS, 'processor')
+        figure = median_ratio(double.figures(OURS, 'processor'), small.figures(OURS, 'processor'))
         good &= bar('4,000 small objects, processor time to 2,000', figure, 2.2)
     for case in cases:
         if case.kind == 'large' and OURS in case.runs:
@@ -206,7 +234,7 @@ def machine(folder, linkers):
 def main():
     parser = argparse.ArgumentParser(description='Times lk_ld beside the linkers that are installed.')
     parser.add_argument('--linker', default=os.path.join(HERE, '..', 'crates', 'lk_ld', 'out', 'lk_ld'))
-    parser.add_argument('--rounds', type=int, default=7)
+    parser.add_argument('--rounds', type=int, default=21)
     parser.add_argument('--folder', help='where inputs and images stand, in a folder of their own (the temporary one)')
     parser.add_argument('--skip', action='append', default=[], metavar='PROGRAM')
     parser.add_argument('--install', action='store_true')
@@ -218,10 +246,8 @@ def main():
     with tempfile.TemporaryDirectory(dir=words.folder) as folder:
         machine(folder, linkers)
         cases = [Case(what, folder) for what in words.cases]
-        # Each round goes over all programs, so that what else the machine does weighs on all of them alike.
         for turn in range(words.rounds):
-            for case in cases:
-                case.round(linkers, turn)
+            one_round(cases, linkers, turn)
         for case in cases:
             case.table(linkers)
         good = all(case.good for case in cases)
