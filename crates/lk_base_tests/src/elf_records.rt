@@ -6,7 +6,7 @@ use lk_elf::numbers::{
 };
 use lk_elf::{Dyn, Ehdr, Phdr, Rela, Shdr, Short, Sym};
 
-/// The header of an object with twelve sections, whose headers stand at 632.
+/// The header of an object with twelve sections, whose headers are at 632.
 const HEADER: [u8; 64] = [
     0x7f, 0x45, 0x4c, 0x46, 0x02, 0x01, 0x01, 0x00, 0x00, 0x00, 0x00, 0x00, 0x00, 0x00, 0x00, 0x00,
     0x01, 0x00, 0x3e, 0x00, 0x01, 0x00, 0x00, 0x00, 0x00, 0x00, 0x00, 0x00, 0x00, 0x00, 0x00, 0x00,
@@ -175,7 +175,7 @@ fn reads_and_writes_a_dynamic_entry(rt: HostRuntime) {
 }
 
 #[test]
-fn tells_missing_bytes_at_the_end_of_memory(rt: HostRuntime) {
+fn reports_missing_bytes_at_the_end_of_memory(rt: HostRuntime) {
     let last = usize::MAX;
     assert_eq!(rt;
         Ehdr::read_at(&HEADER, last),

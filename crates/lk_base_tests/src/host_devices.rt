@@ -18,7 +18,7 @@ fn has_bytes(rt: HostRuntime, path: &str, bytes: &[u8]) -> bool {
     }
 }
 
-/// Whether no file stands at the path.
+/// Whether no file is at the path.
 fn is_absent(rt: HostRuntime, path: &str) -> bool {
     matches!(fs::exists(&rt, path), Ok(false))
 }

@@ -137,8 +137,8 @@ fn is_kept(rt: HostRuntime, path: &str, time: SystemTime) -> bool {
     }
 }
 
-/// The time that the file's stamp tells.
-fn told_time(files: &mut HostFiles, path: &Name) -> Option<i64> {
+/// The time that the file's stamp reports.
+fn reported_time(files: &mut HostFiles, path: &Name) -> Option<i64> {
     match files.stat(path) {
         StatAnswer::Found(Some(stamp)) => Some(stamp.modified),
         _ => None,
@@ -150,7 +150,7 @@ fn times_of_files_are_nanoseconds(rt: HostRuntime) -> Result<(), NoMemory> {
     let path = Name::from_slice(rt.alloc(), b"timed")?;
     assert!(rt; is_written(rt, "timed", b""));
     let mut files = HostFiles::new(rt);
-    for (time, told) in [
+    for (time, reported) in [
         (UNIX_EPOCH.checked_sub(Duration::new(0, 1)), Some(-1)),
         (
             UNIX_EPOCH.checked_add(Duration::new(9_223_372_036, 854_775_807)),
@@ -171,7 +171,7 @@ fn times_of_files_are_nanoseconds(rt: HostRuntime) -> Result<(), NoMemory> {
     ] {
         // A file system keeps times of some centuries alone.
         if time.is_some_and(|time| is_kept(rt, "timed", time)) {
-            assert_eq!(rt; told_time(&mut files, &path), told);
+            assert_eq!(rt; reported_time(&mut files, &path), reported);
         }
     }
     assert!(rt; is_removed(rt, "timed"));

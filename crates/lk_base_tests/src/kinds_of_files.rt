@@ -1,4 +1,4 @@
-//! Each kind and each fault, told of the first bytes of a file.
+//! Each kind and each fault, reported of the first bytes of a file.
 
 use lk_model::summaries::Kind;
 use lk_report::InputFault;
@@ -12,7 +12,7 @@ const OBJECT: [u8; 64] = [
 ];
 
 #[test]
-fn objects_and_shared_objects_are_told_apart(rt: HostRuntime) {
+fn objects_and_shared_objects_are_reported_apart(rt: HostRuntime) {
     assert_eq!(rt; kind_of(&OBJECT), Ok(Kind::Object));
     let mut shared = OBJECT;
     shared[16] = 3;
@@ -20,7 +20,7 @@ fn objects_and_shared_objects_are_told_apart(rt: HostRuntime) {
 }
 
 #[test]
-fn the_first_fault_is_told(rt: HostRuntime) {
+fn the_first_fault_is_reported(rt: HostRuntime) {
     assert_eq!(rt; kind_of(b"!<arch>\n"), Err(InputFault::Archive));
     assert_eq!(rt; kind_of(b"INPUT(x)"), Err(InputFault::Script));
     assert_eq!(rt; kind_of(b""), Err(InputFault::NotElf));

@@ -27,14 +27,14 @@ claimed (c ∷ cs) s =
     either_some (bytes_eq c.0 s) (bytes_eq s c.0) (is_text_in (signatures_of cs) s) c.1 (holder_of cs s) (nat_list_eq_equiv.symm c.0 s) (claimed cs s)
 
 -- the holder after one more claim
-held : (b : Bool) (v : ℕ) (rest more : Option ℕ) → cond b (Some v) (option_or rest more) ≡ option_or (cond b (Some v) rest) more
-held true v rest more = refl
-held false v rest more = refl
+stored : (b : Bool) (v : ℕ) (rest more : Option ℕ) → cond b (Some v) (option_or rest more) ≡ option_or (cond b (Some v) rest) more
+stored true v rest more = refl
+stored false v rest more = refl
 
 holder-push : (claims : List (List ℕ × ℕ)) (c : List ℕ × ℕ) (s : List ℕ) → holder_of (claims ++ c ∷ []) s ≡ option_or (holder_of claims s) (cond (bytes_eq s c.0) (Some c.1) None)
 holder-push [] c s = refl
 holder-push (d ∷ ds) c s =
-    ap (λ o. cond (bytes_eq s d.0) (Some d.1) o) (holder-push ds c s) ∙ held (bytes_eq s d.0) d.1 (holder_of ds s) (cond (bytes_eq s c.0) (Some c.1) None)
+    ap (λ o. cond (bytes_eq s d.0) (Some d.1) o) (holder-push ds c s) ∙ stored (bytes_eq s d.0) d.1 (holder_of ds s) (cond (bytes_eq s c.0) (Some c.1) None)
 
 -- two equal signatures have one holder
 same_holder : (claims : List (List ℕ × ℕ)) (s t : List ℕ) → bytes_eq s t ≡ true → holder_of claims s ≡ holder_of claims t
@@ -42,7 +42,7 @@ same_holder [] s t e = refl
 same_holder (c ∷ cs) s t e =
     ap (λ b. cond b (Some c.1) (holder_of cs s)) (nat_list_eq_equiv.congr s t c.0 e) ∙ ap (λ o. cond (bytes_eq t c.0) (Some c.1) o) (same_holder cs s t e)
 
--- what was held before, and then the claim: where the signature has a holder already, and where not
+-- what was kept before, and then the claim: where the signature has a holder already, and where not
 kept : (b : Bool) (v : ℕ) (was rest : Option ℕ) → (b ≡ true → is_some was ≡ true) → option_or was rest ≡ option_or was (cond b (Some v) rest)
 kept true v (Some w) rest there = refl
 kept true v None rest there = absurd (let f = there refl in cc (f))

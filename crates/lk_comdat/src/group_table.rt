@@ -37,11 +37,11 @@ impl Groups {
         }
     }
 
-    /// Claims a signature for an input: the first claim of it is recorded, and a later one is told who
+    /// Claims a signature for an input: the first claim of it is recorded, and a later one is reported who
     /// has it.
     ///
     /// # Errors
-    /// Want of memory, which only a new signature can meet. The claim is then not recorded.
+    /// Out of memory, which only a new signature can meet. The claim is then not recorded.
     #[tactic(auto, using(crate::proofs::ClaimsFound::recorded))]
     pub fn claim(&mut self, signature: &Name, input: u32) -> Result<Claim, NoMemory>
         ensures { ClaimGives self.old signature.now input result self.new }

@@ -9,32 +9,32 @@ use Rattle.lk_model.specs.Checks.{first_fault}
 use Rattle.lk_model.specs.Grammar.{Phrase, Wrong, Named, Flagged, Given, ExportDynamic, InMode, Marked, Threads, NoThreads, StartLib, EndLib, Output, Entry, Dir, Library, Interp, RunPath, Machine, Base, Patch, ThreadCount, Valued, command_of, holds_zero, is_bad_number, is_digits, is_missing, is_number_in, is_other_machine, is_output, names_output, open_after, number_in, options_of, with_base, with_entry, with_export, with_interp, with_mode, with_output, with_patch, with_workers}
 use Rattle.lk_command.specs.Commands.{command_by}
 use Rattle.lk_command.specs.PhraseFaults.{checks_in, fault_after, given_checks_in}
-use Rattle.lk_command.specs.Values.{Told, at_first, number_read, values_after}
+use Rattle.lk_command.specs.Values.{FileAnswers, at_first, number_read, values_after}
 
 -- the grammar's values after one more phrase
-abbrev told_after : Told → Phrase → Told
-told_after told phrase = record {
-  output = with_output told.output phrase;
-  entry = with_entry told.entry phrase;
-  interp = with_interp told.interp phrase;
-  base = with_base told.base phrase;
-  patch = with_patch told.patch phrase;
-  mode = with_mode told.mode phrase;
-  export_dynamic = with_export told.export_dynamic phrase;
-  workers = with_workers told.workers phrase;
+abbrev reported_after : FileAnswers → Phrase → FileAnswers
+reported_after reported phrase = record {
+  output = with_output reported.output phrase;
+  entry = with_entry reported.entry phrase;
+  interp = with_interp reported.interp phrase;
+  base = with_base reported.base phrase;
+  patch = with_patch reported.patch phrase;
+  mode = with_mode reported.mode phrase;
+  export_dynamic = with_export reported.export_dynamic phrase;
+  workers = with_workers reported.workers phrase;
 }
 
 -- the grammar's values after all phrases
-abbrev told_by : Told → List Phrase → Told
-told_by told phrases = record {
-  output = fold with_output told.output phrases;
-  entry = fold with_entry told.entry phrases;
-  interp = fold with_interp told.interp phrases;
-  base = fold with_base told.base phrases;
-  patch = fold with_patch told.patch phrases;
-  mode = fold with_mode told.mode phrases;
-  export_dynamic = fold with_export told.export_dynamic phrases;
-  workers = fold with_workers told.workers phrases;
+abbrev reported_by : FileAnswers → List Phrase → FileAnswers
+reported_by reported phrases = record {
+  output = fold with_output reported.output phrases;
+  entry = fold with_entry reported.entry phrases;
+  interp = fold with_interp reported.interp phrases;
+  base = fold with_base reported.base phrases;
+  patch = fold with_patch reported.patch phrases;
+  mode = fold with_mode reported.mode phrases;
+  export_dynamic = fold with_export reported.export_dynamic phrases;
+  workers = fold with_workers reported.workers phrases;
 }
 
 -- where no check fails, the last does not
@@ -60,38 +60,38 @@ number_is : (low high old : ℕ) (value : List ℕ) → not (is_number_in low hi
 number_is low high old value good =
     read_from (is_digits value) (nat_le low (number_in value)) (nat_le (number_in value) high) (number_in value) old good
 
-one_phrase : (told : Told) (group : Option ℕ) (named : Bool) (phrase : Phrase) → first_fault (checks_in group named phrase) ≡ None → values_after told phrase ≡ told_after told phrase
-one_phrase told group named (Wrong n) none = refl
-one_phrase told group named (Named path) none = refl
-one_phrase told group named (Flagged n ExportDynamic) none = refl
-one_phrase told group named (Flagged n (InMode m)) none = refl
-one_phrase told group named (Flagged n (Marked m)) none = refl
-one_phrase told group named (Flagged n Threads) none = refl
-one_phrase told group named (Flagged n NoThreads) none = refl
-one_phrase told group named (Flagged n StartLib) none = refl
-one_phrase told group named (Flagged n EndLib) none = refl
-one_phrase told group named (Given n Output at None) none = refl
-one_phrase told group named (Given n Entry at None) none = refl
-one_phrase told group named (Given n Dir at None) none = refl
-one_phrase told group named (Given n Library at None) none = refl
-one_phrase told group named (Given n Interp at None) none = refl
-one_phrase told group named (Given n RunPath at None) none = refl
-one_phrase told group named (Given n Machine at None) none = refl
-one_phrase told group named (Given n Base at None) none = refl
-one_phrase told group named (Given n Patch at None) none = refl
-one_phrase told group named (Given n ThreadCount at None) none = refl
-one_phrase told group named (Given n Output at (Some v)) none = refl
-one_phrase told group named (Given n Entry at (Some v)) none = refl
-one_phrase told group named (Given n Dir at (Some v)) none = refl
-one_phrase told group named (Given n Library at (Some v)) none = refl
-one_phrase told group named (Given n Interp at (Some v)) none = refl
-one_phrase told group named (Given n RunPath at (Some v)) none = refl
-one_phrase told group named (Given n Machine at (Some v)) none = refl
-one_phrase told group named (Given n Base at (Some v)) none = refl
-one_phrase told group named (Given n Patch at (Some v)) none =
-    ap (λ (p : ℕ). record told { patch = p }) (number_is 0 500 told.patch v (number_good named n Patch at v none))
-one_phrase told group named (Given n ThreadCount at (Some v)) none =
-    ap (λ (w : ℕ). record told { workers = w }) (number_is 1 16 told.workers v (number_good named n ThreadCount at v none))
+one_phrase : (reported : FileAnswers) (group : Option ℕ) (named : Bool) (phrase : Phrase) → first_fault (checks_in group named phrase) ≡ None → values_after reported phrase ≡ reported_after reported phrase
+one_phrase reported group named (Wrong n) none = refl
+one_phrase reported group named (Named path) none = refl
+one_phrase reported group named (Flagged n ExportDynamic) none = refl
+one_phrase reported group named (Flagged n (InMode m)) none = refl
+one_phrase reported group named (Flagged n (Marked m)) none = refl
+one_phrase reported group named (Flagged n Threads) none = refl
+one_phrase reported group named (Flagged n NoThreads) none = refl
+one_phrase reported group named (Flagged n StartLib) none = refl
+one_phrase reported group named (Flagged n EndLib) none = refl
+one_phrase reported group named (Given n Output at None) none = refl
+one_phrase reported group named (Given n Entry at None) none = refl
+one_phrase reported group named (Given n Dir at None) none = refl
+one_phrase reported group named (Given n Library at None) none = refl
+one_phrase reported group named (Given n Interp at None) none = refl
+one_phrase reported group named (Given n RunPath at None) none = refl
+one_phrase reported group named (Given n Machine at None) none = refl
+one_phrase reported group named (Given n Base at None) none = refl
+one_phrase reported group named (Given n Patch at None) none = refl
+one_phrase reported group named (Given n ThreadCount at None) none = refl
+one_phrase reported group named (Given n Output at (Some v)) none = refl
+one_phrase reported group named (Given n Entry at (Some v)) none = refl
+one_phrase reported group named (Given n Dir at (Some v)) none = refl
+one_phrase reported group named (Given n Library at (Some v)) none = refl
+one_phrase reported group named (Given n Interp at (Some v)) none = refl
+one_phrase reported group named (Given n RunPath at (Some v)) none = refl
+one_phrase reported group named (Given n Machine at (Some v)) none = refl
+one_phrase reported group named (Given n Base at (Some v)) none = refl
+one_phrase reported group named (Given n Patch at (Some v)) none =
+    ap (λ (p : ℕ). record reported { patch = p }) (number_is 0 500 reported.patch v (number_good named n Patch at v none))
+one_phrase reported group named (Given n ThreadCount at (Some v)) none =
+    ap (λ (w : ℕ). record reported { workers = w }) (number_is 1 16 reported.workers v (number_good named n ThreadCount at v none))
 
 -- no fault of phrases is no fault of the first and none of the rest
 first_none : (a b : Option UsageFault) → option_or a b ≡ None → a ≡ None
@@ -102,13 +102,13 @@ rest_none : (a b : Option UsageFault) → option_or a b ≡ None → b ≡ None
 rest_none None b none = none
 rest_none (Some f) b none = absurd (cc)
 
-values_are : (told : Told) (group : Option ℕ) (named : Bool) (phrases : List Phrase) → fault_after group named phrases ≡ None → fold values_after told phrases ≡ told_by told phrases
-values_are told group named [] none = refl
-values_are told group named (phrase ∷ phrases) none =
-    ap (λ (t : Told). fold values_after t phrases) (one_phrase told group named phrase (first_none (first_fault (checks_in group named phrase)) (fault_after (open_after group phrase) (named || names_output phrase) phrases) none))
-    ∙ values_are (told_after told phrase) (open_after group phrase) (named || names_output phrase) phrases
+values_are : (reported : FileAnswers) (group : Option ℕ) (named : Bool) (phrases : List Phrase) → fault_after group named phrases ≡ None → fold values_after reported phrases ≡ reported_by reported phrases
+values_are reported group named [] none = refl
+values_are reported group named (phrase ∷ phrases) none =
+    ap (λ (t : FileAnswers). fold values_after t phrases) (one_phrase reported group named phrase (first_none (first_fault (checks_in group named phrase)) (fault_after (open_after group phrase) (named || names_output phrase) phrases) none))
+    ∙ values_are (reported_after reported phrase) (open_after group phrase) (named || names_output phrase) phrases
     (rest_none (first_fault (checks_in group named phrase)) (fault_after (open_after group phrase) (named || names_output phrase) phrases) none)
 
 pub command_is : (phrases : List Phrase) → fault_after None false phrases ≡ None → command_by (fold values_after at_first phrases) phrases ≡ command_of phrases
 unfolding command_of options_of
-command_is phrases none = ap (λ (t : Told). command_by t phrases) (values_are at_first None false phrases none)
+command_is phrases none = ap (λ (t : FileAnswers). command_by t phrases) (values_are at_first None false phrases none)

@@ -2,4 +2,4 @@ pub mod WordTables
 pub mod PhraseFaults
 pub mod RunPaths
 pub mod LastValues
-pub mod GrammarTold
+pub mod GrammarReported

@@ -86,13 +86,13 @@ any_seen : (phrases : List Code) → list_any (λ p. names_input (phrase_seen p)
 any_seen [] = refl
 any_seen (p ∷ ps) = ap (λ b. names_input (phrase_seen p) || b) (any_seen ps)
 
--- what the code tells
-pub phrase_fault_told : (phrases : List Phrase) (f : UsageFault) → Some f ≡ fault_after None false phrases → Some f ≡ first_fault (usage_checks phrases)
-phrase_fault_told phrases f e =
+-- what the code reports
+pub phrase_fault_reported : (phrases : List Phrase) (f : UsageFault) → Some f ≡ fault_after None false phrases → Some f ≡ first_fault (usage_checks phrases)
+phrase_fault_reported phrases f e =
     ap (λ (o : Option UsageFault). option_or o (input_fault (list_any names_input phrases))) e ∙ sym (in_parts phrases)
 
-pub input_told : (phrases : List Code) (named : Bool) → None ≡ fault_after None false (map phrase_seen phrases) → named ≡ list_any (λ p. names_input (phrase_seen p)) phrases → input_fault named ≡ first_fault (usage_checks (map phrase_seen phrases))
-input_told phrases named none e =
+pub input_reported : (phrases : List Code) (named : Bool) → None ≡ fault_after None false (map phrase_seen phrases) → named ≡ list_any (λ p. names_input (phrase_seen p)) phrases → input_fault named ≡ first_fault (usage_checks (map phrase_seen phrases))
+input_reported phrases named none e =
     ap input_fault (e ∙ any_seen phrases)
     ∙ ap (λ (o : Option UsageFault). option_or o (input_fault (list_any names_input (map phrase_seen phrases)))) none
     ∙ sym (in_parts (map phrase_seen phrases))

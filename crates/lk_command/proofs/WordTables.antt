@@ -7,7 +7,7 @@ use Rattle.lk_model.specs.Grammar as grammar
 use Rattle.lk_model.specs.Grammar.{whole_words, beginnings, meaning_of, word_meaning, joined_meaning, holds_zero, is_path}
 use Rattle.lk_command.specs.Tables.{meaning_in, value_after, value_in}
 
--- the row of a word among the options that stand as they are, and among their beginnings
+-- the row of a word among the options that are as they are, and among their beginnings
 abbrev whole_row : List ℕ → Option (List ℕ × grammar.Meaning)
 whole_row word = find (λ (row : List ℕ × grammar.Meaning). bytes_eq row.0 word) whole_words
 
@@ -46,7 +46,7 @@ path_means (b ∷ bs) whole path =
     ∙ sym (ap (word_meaning (b ∷ bs)) (no_whole_row b bs apart))
     ∙ by_row (b ∷ bs) whole
 
--- ---- a word that is an option as it stands
+-- ---- a word that is an option as it is
 
 of_row : (word : List ℕ) (row : Option (List ℕ × grammar.Meaning)) (m : grammar.Meaning) → option_map (λ (r : List ℕ × grammar.Meaning). r.1) row ≡ Some m → m ≡ word_meaning word row
 of_row word None m e = absurd (cc)

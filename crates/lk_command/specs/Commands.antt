@@ -4,27 +4,27 @@ use Rattle.std.specs.List.{join_with_byte}
 use Rattle.lk_report.specs.declared.causes.OptionRecord.{OptionRecord}
 use Rattle.lk_model.specs.declared.commands.Command.{Command}
 use Rattle.lk_model.specs.Grammar.{Phrase, base_beside, dirs_of, items_of, run_dirs_of}
-use Rattle.lk_command.specs.Values.{Told}
+use Rattle.lk_command.specs.Values.{FileAnswers}
 
 -- the options that an image records
-abbrev pub options_by : Told → List Phrase → OptionRecord
-options_by told phrases = record {
-  entry = told.entry;
-  interp = told.interp;
+abbrev pub options_by : FileAnswers → List Phrase → OptionRecord
+options_by reported phrases = record {
+  entry = reported.entry;
+  interp = reported.interp;
   runpath = join_with_byte 58 (flat_map run_dirs_of phrases);
-  patch = told.patch;
-  export_dynamic = told.export_dynamic;
+  patch = reported.patch;
+  export_dynamic = reported.export_dynamic;
   dynamic = false;
 }
 
--- the command of values and of the phrases that they were told by
-abbrev pub command_by : Told → List Phrase → Command
-command_by told phrases = record {
-  output = told.output;
-  mode = told.mode;
-  base = base_beside told.output told.base;
-  options = options_by told phrases;
+-- the command of values and of the phrases that they were reported by
+abbrev pub command_by : FileAnswers → List Phrase → Command
+command_by reported phrases = record {
+  output = reported.output;
+  mode = reported.mode;
+  base = base_beside reported.output reported.base;
+  options = options_by reported phrases;
   dirs = flat_map dirs_of phrases;
   items = items_of phrases;
-  workers = told.workers;
+  workers = reported.workers;
 }

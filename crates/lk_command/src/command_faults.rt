@@ -7,7 +7,7 @@ use lk_report::{NoMemory, UsageFault};
 pub enum CommandFault {
     /// The first fault of the words.
     Usage(UsageFault),
-    /// Want of memory.
+    /// Out of memory.
     NoMemory,
 }
 

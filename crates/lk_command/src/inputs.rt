@@ -60,7 +60,7 @@ fn end_group(listing: &mut Listing) -> Result<(), NoMemory>
     }
 }
 
-/// The inputs after a word that stands alone.
+/// The inputs after a word that is alone.
 fn put_flag(alloc: Global, listing: &mut Listing, flag: Flag) -> Result<(), NoMemory>
     ensures { OnOk result (listing_seen listing.new ≡ flagged_in (listing_seen listing.old) (flag_seen flag)) }
 {

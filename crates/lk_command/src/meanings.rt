@@ -27,7 +27,7 @@ pub(crate) enum Valued {
     ThreadCount,
 }
 
-/// The words that stand alone.
+/// The words that are alone.
 #[derive(Clone, Copy, PartialEq, Eq, Debug)]
 pub(crate) enum Flag {
     /// Every definition is exported.
@@ -53,7 +53,7 @@ pub(crate) enum Meaning<'a> {
     Meaningless,
     /// An input's path.
     Path,
-    /// A word that stands alone.
+    /// A word that is alone.
     Alone(Flag),
     /// An option whose value is the next word.
     Apart(Valued),

@@ -72,7 +72,7 @@ fn command_of(alloc: Global, phrases: &[Phrase<'_>]) -> Result<Command, NoMemory
 ///
 /// # Errors
 /// `Usage`: the first fault of the words, with the number of the word that has it, from 1. A word or a
-/// value with a zero byte is an unknown word. `NoMemory`: want of memory, which any words can meet.
+/// value with a zero byte is an unknown word. `NoMemory`: out of memory, which any words can meet.
 pub fn parse_words(alloc: Global, words: &NameList) -> Result<Command, CommandFault>
     requires { length words.now < 2 ^ 32 - 1 }
     ensures { ParseGives words.now result }

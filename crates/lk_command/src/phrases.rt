@@ -2,14 +2,14 @@
 
 use crate::meanings::{Flag, Valued};
 
-/// A part of a command that has a meaning of its own. A word is told by its number, from 1.
+/// A part of a command that has a meaning of its own. A word is reported by its number, from 1.
 #[derive(Clone, Copy)]
 pub(crate) enum Phrase<'a> {
     /// The number of a word that means nothing.
     Wrong(u32),
     /// An input's path.
     Named(&'a [u8]),
-    /// A word that stands alone, with its number.
+    /// A word that is alone, with its number.
     Flagged(u32, Flag),
     /// An option with its value.
     Given(Given<'a>),

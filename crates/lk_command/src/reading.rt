@@ -1,4 +1,4 @@
-//! The words of a command are read as phrases, from left to right (own). The value of an option that stands
+//! The words of a command are read as phrases, from left to right (own). The value of an option that is
 //! apart is the next word, whatever that begins with.
 
 ghost use Rattle.std.specs.Prelude.{◌≡◌, ◌+◌, ◌-◌, ◌^◌, ◌<◌, ◌≤◌, length, map, option_map, IfOk, OnOk, [], ◌∷◌, ◌++◌};

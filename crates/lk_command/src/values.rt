@@ -9,7 +9,7 @@ use crate::numbers::decimal;
 use crate::phrases::Phrase;
 use lk_model::commands::Mode;
 
-/// The values of a command. Texts stand in its words.
+/// The values of a command. Texts are in its words.
 #[derive(Clone, Copy)]
 pub(crate) struct Values<'a> {
     pub output: &'a [u8],
@@ -56,7 +56,7 @@ fn after_given<'a>(mut values: Values<'a>, option: Valued, value: &'a [u8]) -> V
     values
 }
 
-/// The values after a word that stands alone.
+/// The values after a word that is alone.
 fn after_flag<'a>(mut values: Values<'a>, flag: Flag) -> Values<'a>
     ensures { values_seen result ≡ flagged_after (values_seen values.entry) (flag_seen flag) }
 {

@@ -8,7 +8,7 @@ ghost use Rattle.lk_command.specs.Tables.{beginning_seen, meaning_in, pair_seen,
 use crate::meanings::{Flag, Meaning, Valued};
 use lk_model::commands::{Mark, Mode};
 
-/// A word that is an option as it stands, and what it means.
+/// A word that is an option as it is, and what it means.
 #[derive(Clone, Copy)]
 pub(crate) struct WholeWord {
     text: &'static [u8],
@@ -22,7 +22,7 @@ pub(crate) struct Beginning {
     option: Valued,
 }
 
-/// The words that are options as they stand.
+/// The words that are options as they are.
 const WHOLE_WORDS: [WholeWord; 19] = [
     WholeWord {
         text: b"-o",
@@ -175,7 +175,7 @@ fn value_of<'a>(rows: &[Beginning], word: &'a [u8]) -> Option<(Valued, &'a [u8])
     None
 }
 
-/// What a word means that is an option as it stands.
+/// What a word means that is an option as it is.
 fn whole_meaning(word: &[u8]) -> Option<Meaning<'static>>
     ensures { option_map meaning_seen result ≡ meaning_in whole_words word.now }
 {

@@ -8,16 +8,16 @@ use Rattle.lk_report.specs.declared.statuses.Status.{Status}
 use Rattle.lk_model.specs.declared.commands.Command.{Command}
 use Rattle.lk_model.specs.declared.commands.Word.{Word}
 use Rattle.lk_model.specs.Answers.{fault_status, input_faults, shared_waits, size_limit}
-use Rattle.lk_model.specs.Inputs.{Found, found_at, found_in, input_words, inputs_after, inputs_of, missing_of, path_of}
+use Rattle.lk_model.specs.Inputs.{FoundInput, found_at, found_in, input_words, inputs_after, inputs_of, missing_of, path_of}
 use Rattle.lk_model.specs.Views.{Input}
-use Rattle.lk_link_scan.proofs.UnrefusedObjects.{unrefused_are_objects}
-use Rattle.lk_passes.specs.declared.inputs.Inputs.{Inputs}
-use Rattle.lk_passes.specs.LookUps.{inputs_limit}
-use Rattle.lk_passes.specs.Refusals.{AreInputs, files_refusal, inputs_refusal}
-use Rattle.lk_recorded.specs.CommandFits.{CommandFits}
-use Rattle.lk_recorded.specs.Recordable.{has_zero}
-use Rattle.lk_recorded.proofs.Limits.{limit-tells}
-use Rattle.lk_recorded.proofs.Lists.{all-found, and-then, first-none, found-in-map, length-found}
+use Rattle.lk_scan_inputs.proofs.UnrefusedObjects.{unrefused_are_objects}
+use Rattle.lk_inputs.specs.declared.inputs.Inputs.{Inputs}
+use Rattle.lk_inputs.specs.LookUps.{inputs_limit}
+use Rattle.lk_inputs.specs.Refusals.{AreInputs, files_refusal, inputs_refusal}
+use Rattle.lk_law_records.specs.CommandFits.{CommandFits}
+use Rattle.lk_law_records.specs.Recordable.{has_zero}
+use Rattle.lk_law_records.proofs.Limits.{limit-reports}
+use Rattle.lk_law_records.proofs.Lists.{all-found, and-then, first-none, found-in-map, length-found}
 use Rattle.lk_records.proofs.OccurrencesCounted.{commands_are_counted}
 use Rattle.lk_driver.specs.ReadInputs.{AreReadInputs}
 use Rattle.lk_driver.proofs.PlacesClean.{IsClean, path_clean}
@@ -36,14 +36,14 @@ none_waits xs h =
 
 -- ---- the paths of the files that are found
 
-found_clean : (c : Command) (there : FileMap) (row : ℕ × Word) (found : Found) → AllByRecursion IsClean c.dirs → IsClean row.1.text → found_in c there row ≡ Some found → IsClean found.path
+found_clean : (c : Command) (there : FileMap) (row : ℕ × Word) (found : FoundInput) → AllByRecursion IsClean c.dirs → IsClean row.1.text → found_in c there row ≡ Some found → IsClean found.path
 found_clean c there row found dirs own e =
     let path = and-then (path_of c there row.1) (found_at there row) found e in
-    let made : FileRow → Found = λ file. record { lib = row.0; word = row.1; path = path.0; file = file } in
+    let made : FileRow → FoundInput = λ file. record { lib = row.0; word = row.1; path = path.0; file = file } in
     let file = found-in-map made (there path.0) found path.1.1 in
-    subst (λ (f : Found). IsClean f.path) file.1.1 (path_clean c there row.1 path.0 own dirs path.1.0)
+    subst (λ (f : FoundInput). IsClean f.path) file.1.1 (path_clean c there row.1 path.0 own dirs path.1.0)
 
-paths_clean : (earlier : List (List ℕ)) (founds : List Found) → AllByRecursion (λ (f : Found). IsClean f.path) founds → AllByRecursion (λ (x : Input). has_zero x.path ≡ false) (inputs_after earlier founds)
+paths_clean : (earlier : List (List ℕ)) (founds : List FoundInput) → AllByRecursion (λ (f : FoundInput). IsClean f.path) founds → AllByRecursion (λ (x : Input). has_zero x.path ≡ false) (inputs_after earlier founds)
 unfolding inputs_after
 paths_clean earlier [] all = tt
 paths_clean earlier (found ∷ founds) all = (all.0, paths_clean (found.path ∷ earlier) founds all.1)
@@ -52,11 +52,11 @@ input_paths_clean : (c : Command) (there : FileMap) → CommandFits c → AllByR
 unfolding inputs_of
 input_paths_clean c there fits =
     paths_clean [] (filter_map (found_in c there) (input_words c))
-    (all-found (λ (row : ℕ × Word). IsClean row.1.text) (λ (f : Found). IsClean f.path) (found_in c there) (input_words c) (λ row own found e. found_clean c there row found fits.dirs own e) fits.words)
+    (all-found (λ (row : ℕ × Word). IsClean row.1.text) (λ (f : FoundInput). IsClean f.path) (found_in c there) (input_words c) (λ row own found e. found_clean c there row found fits.dirs own e) fits.words)
 
 -- ---- how many there are
 
-length_after : (earlier : List (List ℕ)) (founds : List Found) → length (inputs_after earlier founds) ≡ length founds
+length_after : (earlier : List (List ℕ)) (founds : List FoundInput) → length (inputs_after earlier founds) ≡ length founds
 unfolding inputs_after
 length_after earlier [] = refl
 length_after earlier (found ∷ founds) = let more = length_after (found.path ∷ earlier) founds in omega (arith, more)
@@ -64,7 +64,7 @@ length_after earlier (found ∷ founds) = let more = length_after (found.path �
 few_inputs : (c : Command) (there : FileMap) → inputs_limit c ≡ None → length (inputs_of c there) ≤ 4096
 unfolding inputs_of
 few_inputs c there none =
-    let words = limit-tells limit.Inputs 4096 (length (input_words c)) none in
+    let words = limit-reports limit.Inputs 4096 (length (input_words c)) none in
     let found = length-found (found_in c there) (input_words c) in
     let made = length_after [] (filter_map (found_in c there) (input_words c)) in
     omega (arith, words, found, made)

@@ -14,17 +14,17 @@ use Rattle.lk_model.specs.ObjectChecks.{object_fault}
 use Rattle.lk_model.specs.Objects.{summary_in}
 use Rattle.lk_model.specs.Resolving.{paths_of}
 use Rattle.lk_model.specs.Views.{Input}
-use Rattle.lk_link_scan.specs.Objects.{AreObjects}
-use Rattle.lk_passes.specs.declared.input_files.InputFile.{InputFile}
-use Rattle.lk_passes.specs.declared.inputs.Inputs.{Inputs}
-use Rattle.lk_passes.specs.Adding.{summary_of}
-use Rattle.lk_passes.specs.Asked.{AreSound, all_places}
-use Rattle.lk_passes.specs.FilesRead.{fault_in, shared_wait}
-use Rattle.lk_passes.specs.FilesRead.{summary_of as summary_read}
-use Rattle.lk_passes.specs.Named.{files_of}
-use Rattle.lk_passes.proofs.InputsTold.{shared_are}
-use Rattle.lk_recorded.specs.CommandFits.{CommandFits}
-use Rattle.lk_recorded.specs.Recordable.{has_zero}
+use Rattle.lk_scan_inputs.specs.Objects.{AreObjects}
+use Rattle.lk_inputs.specs.declared.input_files.InputFile.{InputFile}
+use Rattle.lk_inputs.specs.declared.inputs.Inputs.{Inputs}
+use Rattle.lk_inputs.specs.Adding.{summary_of}
+use Rattle.lk_inputs.specs.Asked.{AreSound, all_places}
+use Rattle.lk_inputs.specs.FilesRead.{fault_in, shared_wait}
+use Rattle.lk_inputs.specs.FilesRead.{summary_of as summary_read}
+use Rattle.lk_inputs.specs.Named.{files_of}
+use Rattle.lk_inputs.proofs.InputsReported.{shared_are}
+use Rattle.lk_law_records.specs.CommandFits.{CommandFits}
+use Rattle.lk_law_records.specs.Recordable.{has_zero}
 use Rattle.lk_records.specs.Occurrences.{occurrence_of, occurrences_after}
 use Rattle.lk_driver.specs.ReadInputs.{AreReadInputs}
 use Rattle.lk_driver.proofs.PlacesClean.{IsClean, all_places_clean}

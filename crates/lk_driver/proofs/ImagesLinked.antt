@@ -23,24 +23,24 @@ use Rattle.lk_model.specs.Tail.{tail_parts}
 use Rattle.lk_model.specs.Views.{Input, Ref, Resolved}
 use Rattle.lk_model.specs.declared.layouts.Placement.{Placement}
 use Rattle.lk_image.specs.ImageAnswers.{ImageAnswers, IsRefusal, first_of, headers_limit, image_refusal, length_limit}
-use Rattle.lk_lawful.specs.SoundInputs.{SoundInputs}
-use Rattle.lk_lawful.proofs.PiecesLawful.{inputs_are_lawful}
-use Rattle.lk_loaded.specs.Loadable.{WithinLimits}
-use Rattle.lk_loaded.proofs.FullLoaded.{inputs_are_loadable}
-use Rattle.lk_loaded.proofs.PiecesLoaded.{all_pieces_loaded}
-use Rattle.lk_passes.specs.AnswerLaws.{answer_unless}
-use Rattle.lk_passes.proofs.AnswersTold.{below}
-use Rattle.lk_recorded.specs.Recordable.{InputsFit}
-use Rattle.lk_recorded.proofs.Limits.{limit-tells, limits-make-recordable}
-use Rattle.lk_recorded.proofs.Recorded.{full-place-recorded}
+use Rattle.lk_law_placement.specs.SoundInputs.{SoundInputs}
+use Rattle.lk_law_placement.proofs.PiecesLawful.{inputs_are_lawful}
+use Rattle.lk_law_loading.specs.Loadable.{WithinLimits}
+use Rattle.lk_law_loading.proofs.FullLoaded.{inputs_are_loadable}
+use Rattle.lk_law_loading.proofs.PiecesLoaded.{all_pieces_loaded}
+use Rattle.lk_inputs.specs.AnswerLaws.{answer_unless}
+use Rattle.lk_inputs.proofs.AnswersReported.{below}
+use Rattle.lk_law_records.specs.Recordable.{InputsFit}
+use Rattle.lk_law_records.proofs.Limits.{limit-reports, limits-make-recordable}
+use Rattle.lk_law_records.proofs.Recorded.{full-place-recorded}
 use Rattle.lk_driver.specs.LinkPasses.{IsPlaced, IsRefused, LinkGives}
 use Rattle.lk_driver.proofs.PassAnswers.{placed_by, placed_is}
 
 -- ---- values that fit
 
-fits_told : (r : Resolved) (place : Placement) (refs : List Ref) → filter_map (overflow_of r place) refs ≡ [] → list_all (reference_fits r place) refs ≡ true
-fits_told r place [] e = refl
-fits_told r place (ref ∷ refs) e = go (overflow_of r place ref) refl e (fits_told r place refs)
+fits_reported : (r : Resolved) (place : Placement) (refs : List Ref) → filter_map (overflow_of r place) refs ≡ [] → list_all (reference_fits r place) refs ≡ true
+fits_reported r place [] e = refl
+fits_reported r place (ref ∷ refs) e = go (overflow_of r place ref) refl e (fits_reported r place refs)
   where
     fits : (b : Bool) (f : Fault) → (if b then None else Some f) ≡ None → b ≡ true
     fits true f h = refl
@@ -61,7 +61,7 @@ no_faults (f ∷ fs) e = absurd (cc)
 
 all_fit : (r : Resolved) (place : Placement) → fault_status (overflow_faults r place) ≡ None → list_all (reference_fits r place) r.references ≡ true
 unfolding overflow_faults
-all_fit r place e = fits_told r place r.references (no_faults (overflow_faults r place) e)
+all_fit r place e = fits_reported r place r.references (no_faults (overflow_faults r place) e)
 
 -- ---- what an image asks of its placement
 
@@ -124,7 +124,7 @@ linked_at options xs image fits sound few low is laid =
     let r = resolve options xs in
     let place = full_place r in
     let lawful = inputs_are_lawful options xs sound in
-    let within : WithinLimits r place = record { memory = low; headers = limit-tells limit.Headers 64 (length (program_headers place (exec_stack_of r))) is.headers } in
+    let within : WithinLimits r place = record { memory = low; headers = limit-reports limit.Headers 64 (length (program_headers place (exec_stack_of r))) is.headers } in
     record {
       recorded = full-place-recorded options xs image (limits-make-recordable options xs fits lawful (limits_kept r place few low is)) laid;
       lawful = lawful;

@@ -24,17 +24,17 @@ use Rattle.lk_model.specs.Numbered.{Numbered}
 use Rattle.lk_model.specs.Objects.{pieces_in, summary_in}
 use Rattle.lk_model.specs.Resolving.{paths_of, resolve}
 use Rattle.lk_model.specs.Views.{Elf, Input}
-use Rattle.lk_lawful.specs.SoundInputs.{SoundInput, SoundInputs}
-use Rattle.lk_lawful.proofs.SoundInputsAdded.{added_inputs_have}
-use Rattle.lk_link_scan.specs.Objects.{AreObjects, IsObject}
-use Rattle.lk_passes.specs.declared.input_files.InputFile.{InputFile}
-use Rattle.lk_passes.specs.declared.inputs.Inputs.{Inputs}
-use Rattle.lk_passes.specs.Named.{file_of, files_of}
-use Rattle.lk_recorded.specs.Recordable.{HasOtherNames, InputFits, InputsFit, SummaryFits, has_zero, is_record_name}
-use Rattle.lk_recorded.proofs.ByteNumbers.{IsLowElf, elf-low}
-use Rattle.lk_recorded.proofs.Lists.{all-first, all-second, length-passing}
-use Rattle.lk_recorded.proofs.ObjectFits.{object-fits}
-use Rattle.lk_recorded.proofs.SoundNames.{pieces-other}
+use Rattle.lk_law_placement.specs.SoundInputs.{SoundInput, SoundInputs}
+use Rattle.lk_law_placement.proofs.SoundInputsAdded.{added_inputs_have}
+use Rattle.lk_scan_inputs.specs.Objects.{AreObjects, IsObject}
+use Rattle.lk_inputs.specs.declared.input_files.InputFile.{InputFile}
+use Rattle.lk_inputs.specs.declared.inputs.Inputs.{Inputs}
+use Rattle.lk_inputs.specs.Named.{file_of, files_of}
+use Rattle.lk_law_records.specs.Recordable.{HasOtherNames, InputFits, InputsFit, SummaryFits, has_zero, is_record_name}
+use Rattle.lk_law_records.proofs.ByteNumbers.{IsLowElf, elf-low}
+use Rattle.lk_law_records.proofs.Lists.{all-first, all-second, length-passing}
+use Rattle.lk_law_records.proofs.ObjectFits.{object-fits}
+use Rattle.lk_law_records.proofs.SoundNames.{pieces-other}
 use Rattle.lk_records.specs.Occurrences.{OccurrencesAreRight, occurrence_of, occurrences_after}
 use Rattle.lk_driver.specs.FileBytes.{FileBytesFit}
 use Rattle.lk_driver.specs.ReadInputs.{AreReadInputs}

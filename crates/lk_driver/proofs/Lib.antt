@@ -1,7 +1,7 @@
 pub mod PassAnswers
-pub mod ObjectsHeld
+pub mod ObjectsStored
 pub mod ImagesLinked
-pub mod LinksTold
+pub mod LinksReported
 pub mod OuterWords
 pub mod OuterAsked
 pub mod OuterRefused

@@ -1,4 +1,4 @@
--- What is answered of the link of inputs that were read: it is done, or has faults of which none tells of a missing
+-- What is answered of the link of inputs that were read: it is done, or has faults of which none reports of a missing
 -- input, or waits, or exceeds a limit other than that on the number of inputs.
 use Rattle.std.proofs.Common.{◌≡◌, refl, ℕ, ◌==◌, ◌^◌, Bool, true, false, ◌&&◌, ◌||◌, not, cond, if◌then◌else◌, List, [], ◌∷◌, ◌++◌, fold, flat_map, filter, filter_map, length, map, Option, Some, None}
 use Rattle.std.specs.Prelude.{nat_lt, slice_get, zip}
@@ -25,16 +25,16 @@ use Rattle.lk_model.specs.Overflows.{overflow_faults, overflow_of, path_of_input
 use Rattle.lk_model.specs.References.{Sited, sited_of}
 use Rattle.lk_model.specs.ResolveFaults.{doubled, faults_of, has_entry, is_mismatch, multiple_definitions, name_count, resolve_faults, tls_mismatches}
 use Rattle.lk_model.specs.Resolving.{found_in}
-use Rattle.lk_model.specs.ScanFaults.{direct_tls_at, empty_copy_at, faults_among, faults_at, is_told, is_to_dropped, is_unsupported, needs_local_sections, of_name, scan_faults, site_of, undefined_at, with_fault}
+use Rattle.lk_model.specs.ScanFaults.{direct_tls_at, empty_copy_at, faults_among, faults_at, is_reported, is_to_dropped, is_unsupported, needs_local_sections, of_name, scan_faults, site_of, undefined_at, with_fault}
 use Rattle.lk_model.specs.Segments.{program_headers}
 use Rattle.lk_model.specs.SymbolValues.{numbers_of, reference_fits, reference_value}
 use Rattle.lk_model.specs.Symbols.{is_strong_definition}
 use Rattle.lk_model.specs.Views.{Elf, Input, Ref, Resolved, Through}
 use Rattle.lk_model.specs.Winners.{is_nothing}
-use Rattle.lk_passes.specs.Asked.{is_missing}
+use Rattle.lk_inputs.specs.Asked.{is_missing}
 use Rattle.lk_driver.specs.LinkStatuses.{IsLinkStatus}
 
--- ---- faults of which none tells of a missing input
+-- ---- faults of which none reports of a missing input
 
 abbrev IsOther : Fault → Type 0
 IsOther f = is_missing f ≡ false
@@ -152,22 +152,22 @@ references_other found inputs sited = each_other _ each sited
     each : (x : Sited) → AreOther (elim (slice_get inputs x.1.input) [ None ↦ [] | Some i ↦ faults_at found i.elf x ])
     each x = of x (slice_get inputs x.1.input)
 
-with_other : (told : List Fault) (f : Fault) → AreOther told → IsOther f → AreOther (with_fault told f)
-with_other told f all own = go (is_told told f)
+with_other : (reported : List Fault) (f : Fault) → AreOther reported → IsOther f → AreOther (with_fault reported f)
+with_other reported f all own = go (is_reported reported f)
   where
-    go : (b : Bool) → AreOther (cond b told (told ++ f ∷ []))
+    go : (b : Bool) → AreOther (cond b reported (reported ++ f ∷ []))
     go true = all
-    go false = joined told (f ∷ []) all (own, tt)
+    go false = joined reported (f ∷ []) all (own, tt)
 
-told_other : (told fs : List Fault) → AreOther told → AreOther fs → AreOther (fold with_fault told fs)
-told_other told [] all more = all
-told_other told (f ∷ fs) all more = told_other (with_fault told f) fs (with_other told f all more.0) more.1
+reported_other : (reported fs : List Fault) → AreOther reported → AreOther fs → AreOther (fold with_fault reported fs)
+reported_other reported [] all more = all
+reported_other reported (f ∷ fs) all more = reported_other (with_fault reported f) fs (with_other reported f all more.0) more.1
 
 scan_other : (r : Resolved) → AreOther (scan_faults r)
 unfolding scan_faults
 scan_other r =
     let sited : List Sited = sited_of r.names r.inputs r.kept in
-    told_other [] (faults_among (found_in r) r.inputs sited) tt (references_other (found_in r) r.inputs sited)
+    reported_other [] (faults_among (found_in r) r.inputs sited) tt (references_other (found_in r) r.inputs sited)
 
 -- ---- the faults of values
 

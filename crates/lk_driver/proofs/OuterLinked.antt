@@ -13,17 +13,17 @@ use Rattle.lk_model.specs.Links.{IsFullLink, resolved_of}
 use Rattle.lk_model.specs.Resolving.{resolve}
 use Rattle.lk_model.specs.Views.{Input, Resolved}
 use Rattle.lk_model.specs.declared.commands.Command.{Command}
-use Rattle.lk_outside.specs.Held.{Held, Known}
-use Rattle.lk_passes.specs.AnswerLaws.{answer_unless}
-use Rattle.lk_passes.specs.Asked.{Asked, LimitFirst, MissesTold, failed_told, is_missing, look_ups_of, paths_read, reads_before}
-use Rattle.lk_passes.specs.LookUps.{inputs_limit}
-use Rattle.lk_passes.specs.Refusals.{AreInputs, CommandInputs, inputs_refusal}
-use Rattle.lk_passes.specs.Told.{map_told}
-use Rattle.lk_passes.specs.declared.inputs.Inputs.{Inputs}
-use Rattle.lk_driver.specs.ImageGiven.{ImageFirst, ImageGiven, ImageTold, IsAccepted, IsRefused, ReadGiven, status_of}
+use Rattle.lk_outside.specs.FilesState.{FilesState, Known}
+use Rattle.lk_inputs.specs.AnswerLaws.{answer_unless}
+use Rattle.lk_inputs.specs.Asked.{Asked, LimitFirst, MissesReported, known_failed, is_missing, look_ups_of, paths_read, reads_before}
+use Rattle.lk_inputs.specs.LookUps.{inputs_limit}
+use Rattle.lk_inputs.specs.Refusals.{AreInputs, CommandInputs, inputs_refusal}
+use Rattle.lk_inputs.specs.FileAnswers.{known_map}
+use Rattle.lk_inputs.specs.declared.inputs.Inputs.{Inputs}
+use Rattle.lk_driver.specs.ImageGiven.{ImageFirst, ImageGiven, ImageReported, IsAccepted, IsRefused, ReadGiven, status_of}
 use Rattle.lk_driver.specs.LinkAnswers.{LinkAnswers}
 use Rattle.lk_driver.specs.LinkStatuses.{IsLinkStatus}
-use Rattle.lk_driver.specs.Outer.{AnswerIs, FilesKept, InputsAsked, IsDue, IsImage, IsOfInputs, LastKept, MissingTold, ReadFaultTold, StatusAsked, words_answer}
+use Rattle.lk_driver.specs.Outer.{AnswerIs, FilesKept, InputsAsked, IsDue, IsImage, IsOfInputs, LastKept, MissingReported, ReadFaultReported, StatusAsked, words_answer}
 use Rattle.lk_driver.specs.ReadInputs.{AreReadInputs}
 use Rattle.lk_driver.proofs.CommandsRead.{command_read}
 use Rattle.lk_driver.proofs.FilesAsRead.{as_read}
@@ -33,7 +33,7 @@ use Rattle.lk_driver.proofs.OuterWords.{accepted-is, no-library, static-is, word
 
 -- ---- of what kind the answer of a link is
 
--- none of its refusals is one of words, of reads or of the device, and it tells of no missing input
+-- none of its refusals is one of words, of reads or of the device, and it reports of no missing input
 abbrev LinkKind : Result (List ℕ) Status → Type 0
 LinkKind (Ok image) = Unit {0}
 LinkKind (Err status.NoMemory) = Unit {0}
@@ -79,14 +79,14 @@ of-inputs (Err (status.NotUpdated c)) k = tt
 of-inputs (Err (status.NotYet waiting.Words)) k = k
 of-inputs (Err (status.NotYet (waiting.Form path))) k = tt
 
-first-of : (o : Option Status) (old new : Held) (inputs : Inputs) (result : Result (List ℕ) Status)
+first-of : (o : Option Status) (old new : FilesState) (inputs : Inputs) (result : Result (List ℕ) Status)
     → (let read : Result Inputs Status = Ok inputs in LimitFirst o read) → LinkKind result → ImageFirst o old result new
 first-of None old new inputs result h k = of-inputs result k
 first-of (Some due) old new inputs result h k = absurd h
 
 -- ---- failures and missing inputs
 
-fault-of : (words : List (List ℕ)) (old new : Held) (result : Result (List ℕ) Status) → LinkKind result → new.faults ≡ old.faults → ReadFaultTold words old (status_of result) new
+fault-of : (words : List (List ℕ)) (old new : FilesState) (result : Result (List ℕ) Status) → LinkKind result → new.faults ≡ old.faults → ReadFaultReported words old (status_of result) new
 fault-of words old new (Ok image) k e = e
 fault-of words old new (Err (status.Done how)) k e = e
 fault-of words old new (Err (status.LinkError f)) k e = e
@@ -98,11 +98,11 @@ fault-of words old new (Err (status.Limit l)) k e = e
 fault-of words old new (Err (status.NotUpdated c)) k e = e
 fault-of words old new (Err (status.NotYet w)) k e = e
 
-missing-of-faults : (old new : Held) (b : Bool) → b ≡ false → new.misses ≡ old.misses → MissesTold b old new
+missing-of-faults : (old new : FilesState) (b : Bool) → b ≡ false → new.misses ≡ old.misses → MissesReported b old new
 missing-of-faults old new true h e = absurd (cc)
 missing-of-faults old new false h e = e
 
-missing-of : (old new : Held) (result : Result (List ℕ) Status) → LinkKind result → new.misses ≡ old.misses → MissingTold old (status_of result) new
+missing-of : (old new : FilesState) (result : Result (List ℕ) Status) → LinkKind result → new.misses ≡ old.misses → MissingReported old (status_of result) new
 missing-of old new (Ok image) k e = e
 missing-of old new (Err (status.Done how)) k e = e
 missing-of old new (Err (status.LinkError f)) k e = missing-of-faults old new (list_any is_missing f) k e
@@ -114,7 +114,7 @@ missing-of old new (Err (status.Limit l)) k e = e
 missing-of old new (Err (status.NotUpdated c)) k e = e
 missing-of old new (Err (status.NotYet w)) k e = e
 
-last-of : (old new : Held) (result : Result (List ℕ) Status) → LinkKind result → failed_told new ≡ failed_told old → LastKept old (status_of result) new
+last-of : (old new : FilesState) (result : Result (List ℕ) Status) → LinkKind result → known_failed new ≡ known_failed old → LastKept old (status_of result) new
 last-of old new (Ok image) k e = e
 last-of old new (Err (status.Done how)) k e = e
 last-of old new (Err (status.LinkError f)) k e = e
@@ -128,11 +128,11 @@ last-of old new (Err (status.NotYet w)) k e = e
 
 -- ---- what the files were asked for
 
-asked-faults : (c : Command) (there : FileMap) (old new : Held) (b : Bool) → b ≡ false → Asked (look_ups_of c there) (paths_read c there) old new → Asked (look_ups_of c there) (reads_before b c there) old new
+asked-faults : (c : Command) (there : FileMap) (old new : FilesState) (b : Bool) → b ≡ false → Asked (look_ups_of c there) (paths_read c there) old new → Asked (look_ups_of c there) (reads_before b c there) old new
 asked-faults c there old new true h a = absurd (cc)
 asked-faults c there old new false h a = a
 
-asked-of : (c : Command) (there : FileMap) (old new : Held) (result : Result (List ℕ) Status) → LinkKind result
+asked-of : (c : Command) (there : FileMap) (old new : FilesState) (result : Result (List ℕ) Status) → LinkKind result
     → Asked (look_ups_of c there) (paths_read c there) old new → StatusAsked c there old (status_of result) new
 asked-of c there old new (Ok image) k a = a
 asked-of c there old new (Err (status.Done how)) k a = a
@@ -179,36 +179,36 @@ abbrev Links : Command → Inputs → Result (List ℕ) Status → Type 0
 Links c inputs result = (xs : List Input) → AreReadInputs c.options xs inputs → LinkAnswers (resolve c.options xs) result
 
 -- where the files tell their map, the answer is that of what the command's inputs are resolved to
-told-link : (words : List (List ℕ)) (c : Command) (old new : Held) (inputs : Inputs) (result : Result (List ℕ) Status) (there : FileMap)
-    → IsAccepted words c → ReadGiven c old (Ok inputs) new → Links c inputs result → map_told old ≡ Some there
+reported-link : (words : List (List ℕ)) (c : Command) (old new : FilesState) (inputs : Inputs) (result : Result (List ℕ) Status) (there : FileMap)
+    → IsAccepted words c → ReadGiven c old (Ok inputs) new → Links c inputs result → known_map old ≡ Some there
     → (static_answer words there ≡ resolved_answer (resolved_of c there)) × LinkAnswers (resolved_of c there) result
-told-link words c old new inputs result there a g links e =
+reported-link words c old new inputs result there a g links e =
     let few : inputs_limit c ≡ None = limit-none (inputs_limit c) inputs g.first in
-    let given : (inputs_refusal c there ≡ None) × AreInputs (inputs_of c there) inputs = given-of (inputs_limit c) c there inputs (g.told there e) in
+    let given : (inputs_refusal c there ≡ None) × AreInputs (inputs_of c there) inputs = given-of (inputs_limit c) c there inputs (g.reported there e) in
     let x : Status = resolved_answer (resolved_of c there) in (
       static-is words c there a ∙ ap (λ o. answer_unless o (answer_unless (inputs_refusal c there) x)) few ∙ ap (λ o. answer_unless o x) given.0,
       as-resolved c there result (links (inputs_of c there) (command_read c there inputs a.fits few given.0 given.1)),
     )
 
-due-of : (words : List (List ℕ)) (c : Command) (old new : Held) (inputs : Inputs) (result : Result (List ℕ) Status)
+due-of : (words : List (List ℕ)) (c : Command) (old new : FilesState) (inputs : Inputs) (result : Result (List ℕ) Status)
     → IsAccepted words c → ReadGiven c old (Ok inputs) new → Links c inputs result → LinkKind result → IsDue words old (status_of result)
 due-of words c old new inputs result a g links k =
-    if-some old.known (λ (held : Known). AnswerIs (status_of result) (static_answer words held.map)) (λ held e.
-    let told = told-link words c old new inputs result held.map a g links (map-known old held e) in
+    if-some old.known (λ (state : Known). AnswerIs (status_of result) (static_answer words state.map)) (λ state e.
+    let reported = reported-link words c old new inputs result state.map a g links (map-known old state e) in
     let P : Status → Type 0 = λ due. AnswerIs (status_of result) due in
-    subst P (sym told.0) (answer-of (resolved_of c held.map) result told.1 k))
+    subst P (sym reported.0) (answer-of (resolved_of c state.map) result reported.1 k))
 
-told-image : (words : List (List ℕ)) (c : Command) (old new : Held) (inputs : Inputs) (result : Result (List ℕ) Status)
-    → IsAccepted words c → ReadGiven c old (Ok inputs) new → Links c inputs result → ImageTold words old result
-told-image words c old new inputs (Ok image) a g links =
-    if-some old.known (λ (held : Known). IsImage words held.map image) (λ held e.
-    let told = told-link words c old new inputs (Ok image) held.map a g links (map-known old held e) in
-    image-of words c held.map image a told.1.1)
-told-image words c old new inputs (Err s) a g links = tt
+reported-image : (words : List (List ℕ)) (c : Command) (old new : FilesState) (inputs : Inputs) (result : Result (List ℕ) Status)
+    → IsAccepted words c → ReadGiven c old (Ok inputs) new → Links c inputs result → ImageReported words old result
+reported-image words c old new inputs (Ok image) a g links =
+    if-some old.known (λ (state : Known). IsImage words state.map image) (λ state e.
+    let reported = reported-link words c old new inputs (Ok image) state.map a g links (map-known old state e) in
+    image-of words c state.map image a reported.1.1)
+reported-image words c old new inputs (Err s) a g links = tt
 
 -- ---- all of it
 
-kept-of : (words : List (List ℕ)) (c : Command) (old new : Held) (inputs : Inputs) (result : Result (List ℕ) Status)
+kept-of : (words : List (List ℕ)) (c : Command) (old new : FilesState) (inputs : Inputs) (result : Result (List ℕ) Status)
     → IsAccepted words c → ReadGiven c old (Ok inputs) new → LinkKind result → FilesKept (words_answer words) words old (status_of result) new
 kept-of words c old new inputs result a g k =
     let few : inputs_limit c ≡ None = limit-none (inputs_limit c) inputs g.first in
@@ -226,7 +226,7 @@ kept-of words c old new inputs result a g k =
     ok-same : (c d : Command) → (let x : Result Command UsageFault = Ok c in x) ≡ Ok d → c ≡ d
     ok-same c d e = cc
 
-pub linked : (words : List (List ℕ)) (c : Command) (old new : Held) (inputs : Inputs) (result : Result (List ℕ) Status)
+pub linked : (words : List (List ℕ)) (c : Command) (old new : FilesState) (inputs : Inputs) (result : Result (List ℕ) Status)
     → IsAccepted words c → ReadGiven c old (Ok inputs) new → Links c inputs result → ImageGiven words old result new
 linked words c old new inputs result a g links =
     let read : (xs : List Input) × AreReadInputs c.options xs inputs = as_read c inputs a.fits g.sound g.placed g.few in
@@ -236,7 +236,7 @@ linked words c old new inputs result a g links =
       refused = refused-of result k;
       first = subst P (sym (words-decide words c a)) (first-of (inputs_limit c) old new inputs result g.first k);
       due = due-of words c old new inputs result a g links k;
-      image = told-image words c old new inputs result a g links;
+      image = reported-image words c old new inputs result a g links;
       fault = fault-of words old new result k g.faults;
       missing = missing-of old new result k (g.misses (no-library c a.waits));
       kept = kept-of words c old new inputs result a g k;

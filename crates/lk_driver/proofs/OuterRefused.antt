@@ -9,15 +9,15 @@ use Rattle.lk_report.specs.declared.statuses.Waiting.TheVariants as waiting
 use Rattle.lk_model.specs.Answers.{accepted_command, resolved_answer, static_answer}
 use Rattle.lk_model.specs.Links.{resolved_of}
 use Rattle.lk_model.specs.declared.commands.Command.{Command}
-use Rattle.lk_outside.specs.Held.{Held, Known}
-use Rattle.lk_passes.specs.AnswerLaws.{answer_unless}
-use Rattle.lk_passes.specs.Asked.{CommandAsked, IsOfReading, LimitFirst, StatusLast, StatusMisses, StatusNamed, all_places, look_ups_of, paths_read}
-use Rattle.lk_passes.specs.LookUps.{inputs_limit}
-use Rattle.lk_passes.specs.Refusals.{CommandInputs, inputs_refusal}
-use Rattle.lk_passes.specs.Told.{StatusCounts}
-use Rattle.lk_passes.specs.declared.inputs.Inputs.{Inputs}
+use Rattle.lk_outside.specs.FilesState.{FilesState, Known}
+use Rattle.lk_inputs.specs.AnswerLaws.{answer_unless}
+use Rattle.lk_inputs.specs.Asked.{CommandAsked, IsOfReading, LimitFirst, StatusLast, StatusMisses, StatusNamed, all_places, look_ups_of, paths_read}
+use Rattle.lk_inputs.specs.LookUps.{inputs_limit}
+use Rattle.lk_inputs.specs.Refusals.{CommandInputs, inputs_refusal}
+use Rattle.lk_inputs.specs.FileAnswers.{StatusCounts}
+use Rattle.lk_inputs.specs.declared.inputs.Inputs.{Inputs}
 use Rattle.lk_driver.specs.ImageGiven.{ImageFirst, ImageGiven, IsAccepted, IsRefused, ReadGiven, WordsGive}
-use Rattle.lk_driver.specs.Outer.{AnswerIs, FilesKept, IsDue, IsOfInputs, IsToldFirst, LastKept, MissingTold, NamesPlace, ReadFaultTold, StatusAsked, words_answer}
+use Rattle.lk_driver.specs.Outer.{AnswerIs, FilesKept, IsDue, IsOfInputs, IsFirstRefusal, LastKept, MissingReported, NamesPlace, ReadFaultReported, StatusAsked, words_answer}
 use Rattle.lk_driver.proofs.OuterAsked.{asked-nothing, if-some, map-known}
 use Rattle.lk_driver.proofs.OuterWords.{accepted-is, no-library, static-is, usage-decides, usage-static, wait-decides, wait-static, words-decide}
 
@@ -53,20 +53,20 @@ of-inputs c (status.NotUpdated x) few k = tt
 of-inputs c (status.NotYet waiting.Words) few k = k
 of-inputs c (status.NotYet (waiting.Form path)) few k = tt
 
-told-first : (due s : Status) → LimitFirst (Some due) (not_read s) → IsToldFirst due s
-told-first due (status.Done how) h = h
-told-first due (status.LinkError f) h = h
-told-first due (status.Usage u) h = h
-told-first due (status.ReadFault p) h = h
-told-first due status.DeviceFault h = h
-told-first due status.NoMemory h = tt
-told-first due (status.Limit l) h = h
-told-first due (status.NotUpdated x) h = h
-told-first due (status.NotYet w) h = h
+reported-first : (due s : Status) → LimitFirst (Some due) (not_read s) → IsFirstRefusal due s
+reported-first due (status.Done how) h = h
+reported-first due (status.LinkError f) h = h
+reported-first due (status.Usage u) h = h
+reported-first due (status.ReadFault p) h = h
+reported-first due status.DeviceFault h = h
+reported-first due status.NoMemory h = tt
+reported-first due (status.Limit l) h = h
+reported-first due (status.NotUpdated x) h = h
+reported-first due (status.NotYet w) h = h
 
-first-of : (c : Command) (o : Option Status) (old new : Held) (s : Status) → inputs_limit c ≡ o → (IsSome o → new ≡ old) → LimitFirst o (not_read s) → IsOfReading c (not_read s) → ImageFirst o old (Err s) new
+first-of : (c : Command) (o : Option Status) (old new : FilesState) (s : Status) → inputs_limit c ≡ o → (IsSome o → new ≡ old) → LimitFirst o (not_read s) → IsOfReading c (not_read s) → ImageFirst o old (Err s) new
 first-of c None old new s is same h k = of-inputs c s is k
-first-of c (Some due) old new s is same h k = (told-first due s h, same refl)
+first-of c (Some due) old new s is same h k = (reported-first due s h, same refl)
 
 -- the answer, where the number of inputs is not refused, and where it is
 answer-of : (c : Command) (there : FileMap) (later s : Status) → CommandInputs None c there (Err s) → IsOfReading c (not_read s) → AnswerIs s (answer_unless (inputs_refusal c there) later)
@@ -95,17 +95,17 @@ either-of : (c : Command) (there : FileMap) (o : Option Status) (later s : Statu
 either-of c there None later s h k = answer-of c there later s h k
 either-of c there (Some due) later s h k = limit-of c there due s h k
 
-due-of : (words : List (List ℕ)) (c : Command) (old new : Held) (s : Status) → IsAccepted words c → ReadGiven c old (not_read s) new → IsDue words old s
+due-of : (words : List (List ℕ)) (c : Command) (old new : FilesState) (s : Status) → IsAccepted words c → ReadGiven c old (not_read s) new → IsDue words old s
 due-of words c old new s a g =
-    if-some old.known (λ (held : Known). AnswerIs s (static_answer words held.map)) (λ held e.
+    if-some old.known (λ (state : Known). AnswerIs s (static_answer words state.map)) (λ state e.
     let P : Status → Type 0 = λ due. AnswerIs s due in
-    subst P (sym (static-is words c held.map a))
-    (either-of c held.map (inputs_limit c) (resolved_answer (resolved_of c held.map)) s (g.told held.map (map-known old held e)) g.kinds))
+    subst P (sym (static-is words c state.map a))
+    (either-of c state.map (inputs_limit c) (resolved_answer (resolved_of c state.map)) s (g.reported state.map (map-known old state e)) g.kinds))
 
 named-of : (words : List (List ℕ)) (c : Command) (path : List ℕ) → IsAccepted words c → Contains (all_places c) path → NamesPlace (accepted_command words) path
 named-of words c path a h = let P : Option Command → Type 0 = λ o. NamesPlace o path in subst P (sym (accepted-is words c a)) h
 
-fault-of : (words : List (List ℕ)) (c : Command) (old new : Held) (s : Status) → IsAccepted words c → StatusNamed (all_places c) (not_read s) → StatusCounts old (not_read s) new → ReadFaultTold words old s new
+fault-of : (words : List (List ℕ)) (c : Command) (old new : FilesState) (s : Status) → IsAccepted words c → StatusNamed (all_places c) (not_read s) → StatusCounts old (not_read s) new → ReadFaultReported words old s new
 fault-of words c old new (status.Done how) a named h = h
 fault-of words c old new (status.LinkError f) a named h = h
 fault-of words c old new (status.Usage u) a named h = h
@@ -116,7 +116,7 @@ fault-of words c old new (status.Limit l) a named h = h
 fault-of words c old new (status.NotUpdated x) a named h = h
 fault-of words c old new (status.NotYet w) a named h = h
 
-missing-of : (old new : Held) (s : Status) → StatusMisses old (not_read s) new → MissingTold old s new
+missing-of : (old new : FilesState) (s : Status) → StatusMisses old (not_read s) new → MissingReported old s new
 missing-of old new (status.Done how) h = h
 missing-of old new (status.LinkError f) h = h
 missing-of old new (status.Usage u) h = h
@@ -127,7 +127,7 @@ missing-of old new (status.Limit l) h = h
 missing-of old new (status.NotUpdated x) h = h
 missing-of old new (status.NotYet w) h = h
 
-asked-of : (c : Command) (there : FileMap) (old new : Held) (s : Status) → IsOfReading c (not_read s) → CommandAsked c there old (not_read s) new → StatusAsked c there old s new
+asked-of : (c : Command) (there : FileMap) (old new : FilesState) (s : Status) → IsOfReading c (not_read s) → CommandAsked c there old (not_read s) new → StatusAsked c there old s new
 asked-of c there old new (status.Done how) k h = absurd k
 asked-of c there old new (status.LinkError f) k h = h
 asked-of c there old new (status.Usage u) k h = absurd k
@@ -138,7 +138,7 @@ asked-of c there old new (status.Limit l) k h = h
 asked-of c there old new (status.NotUpdated x) k h = absurd k
 asked-of c there old new (status.NotYet w) k h = h
 
-last-of : (old new : Held) (s : Status) → StatusLast old (not_read s) new → LastKept old s new
+last-of : (old new : FilesState) (s : Status) → StatusLast old (not_read s) new → LastKept old s new
 last-of old new (status.Done how) h = h
 last-of old new (status.LinkError f) h = h
 last-of old new (status.Usage u) h = h
@@ -152,7 +152,7 @@ last-of old new (status.NotYet w) h = h
 ok-same : (c d : Command) → (let x : Result Command UsageFault = Ok c in x) ≡ Ok d → c ≡ d
 ok-same c d e = cc
 
-kept-of : (words : List (List ℕ)) (c : Command) (o : Option Status) (old new : Held) (s : Status) → IsAccepted words c → (IsSome o → new ≡ old) → ReadGiven c old (not_read s) new → FilesKept o words old s new
+kept-of : (words : List (List ℕ)) (c : Command) (o : Option Status) (old new : FilesState) (s : Status) → IsAccepted words c → (IsSome o → new ≡ old) → ReadGiven c old (not_read s) new → FilesKept o words old s new
 kept-of words c (Some due) old new s a same g = same refl
 kept-of words c None old new s a same g = record {
   map = g.map;
@@ -162,7 +162,7 @@ kept-of words c None old new s a same g = record {
   last = last-of old new s g.last;
 }
 
-refused-as : (words : List (List ℕ)) (c : Command) (old new : Held) (s : Status) → IsAccepted words c → ReadGiven c old (not_read s) new → ImageGiven words old (Err s) new
+refused-as : (words : List (List ℕ)) (c : Command) (old new : FilesState) (s : Status) → IsAccepted words c → ReadGiven c old (not_read s) new → ImageGiven words old (Err s) new
 refused-as words c old new s a g =
     let P : Option Status → Type 0 = λ o. ImageFirst o old (Err s) new in
     let Q : Option Status → Type 0 = λ o. FilesKept o words old s new in
@@ -176,12 +176,12 @@ refused-as words c old new s a g =
       kept = subst Q (sym (words-decide words c a)) (kept-of words c (inputs_limit c) old new s a g.limit g);
     }
 
-pub refused : (words : List (List ℕ)) (c : Command) (old new : Held) (s : Status) (result : Result (List ℕ) Status) → IsAccepted words c → ReadGiven c old (Err s) new → result ≡ Err s → ImageGiven words old result new
+pub refused : (words : List (List ℕ)) (c : Command) (old new : FilesState) (s : Status) (result : Result (List ℕ) Status) → IsAccepted words c → ReadGiven c old (Err s) new → result ≡ Err s → ImageGiven words old result new
 refused words c old new s result a g e = let P : Result (List ℕ) Status → Type 0 = λ r. ImageGiven words old r new in subst P (sym e) (refused-as words c old new s a g)
 
 -- ---- words that are refused, or wait
 
-decided : (words : List (List ℕ)) (old : Held) (s : Status) → words_answer words ≡ Some s → IsRefused (Err s) → IsToldFirst s s → ReadFaultTold words old s old → MissingTold old s old
+decided : (words : List (List ℕ)) (old : FilesState) (s : Status) → words_answer words ≡ Some s → IsRefused (Err s) → IsFirstRefusal s s → ReadFaultReported words old s old → MissingReported old s old
     → IsDue words old s → ImageGiven words old (Err s) old
 decided words old s is refused first fault missing due =
     let P : Option Status → Type 0 = λ o. ImageFirst o old (Err s) old in
@@ -196,11 +196,11 @@ decided words old s is refused first fault missing due =
       kept = subst Q (sym is) refl;
     }
 
-unread-first : (o : Option Status) (old : Held) → ImageFirst o old (Err status.NoMemory) old
+unread-first : (o : Option Status) (old : FilesState) → ImageFirst o old (Err status.NoMemory) old
 unread-first None old = tt
 unread-first (Some due) old = (tt, refl)
 
-unread-kept : (o : Option Status) (words : List (List ℕ)) (old : Held) → FilesKept o words old status.NoMemory old
+unread-kept : (o : Option Status) (words : List (List ℕ)) (old : FilesState) → FilesKept o words old status.NoMemory old
 unread-kept (Some due) words old = refl
 unread-kept None words old = record {
   map = refl;
@@ -208,26 +208,26 @@ unread-kept None words old = record {
   last = tt;
 }
 
--- want of memory before anything is asked of the files
-no-memory : (words : List (List ℕ)) (old : Held) → ImageGiven words old (Err status.NoMemory) old
+-- out of memory before anything is asked of the files
+no-memory : (words : List (List ℕ)) (old : FilesState) → ImageGiven words old (Err status.NoMemory) old
 no-memory words old = record {
   refused = tt;
   first = unread-first (words_answer words) old;
-  due = if-some old.known (λ (held : Known). AnswerIs status.NoMemory (static_answer words held.map)) (λ held e. tt);
+  due = if-some old.known (λ (state : Known). AnswerIs status.NoMemory (static_answer words state.map)) (λ state e. tt);
   image = tt;
   fault = tt;
   missing = tt;
   kept = unread-kept (words_answer words) words old;
 }
 
-words-refused-as : (words : List (List ℕ)) (old : Held) (s : Status) → WordsGive words (Err s) → ImageGiven words old (Err s) old
+words-refused-as : (words : List (List ℕ)) (old : FilesState) (s : Status) → WordsGive words (Err s) → ImageGiven words old (Err s) old
 words-refused-as words old (status.Usage u) h =
     decided words old (status.Usage u) (usage-decides words u h) tt refl refl refl
-    (if-some old.known (λ (held : Known). status.Usage u ≡ static_answer words held.map) (λ held e. sym (usage-static words u held.map h)))
+    (if-some old.known (λ (state : Known). status.Usage u ≡ static_answer words state.map) (λ state e. sym (usage-static words u state.map h)))
 words-refused-as words old (status.NotYet waiting.Words) h =
     let s : Status = status.NotYet waiting.Words in
     decided words old s (wait-decides words h.0 s h.1 h.2) tt refl refl refl
-    (if-some old.known (λ (held : Known). s ≡ static_answer words held.map) (λ held e. sym (wait-static words h.0 s held.map h.1 h.2)))
+    (if-some old.known (λ (state : Known). s ≡ static_answer words state.map) (λ state e. sym (wait-static words h.0 s state.map h.1 h.2)))
 words-refused-as words old (status.NotYet (waiting.Form path)) h = absurd h
 words-refused-as words old status.NoMemory h = no-memory words old
 words-refused-as words old (status.Done how) h = absurd h
@@ -237,5 +237,5 @@ words-refused-as words old status.DeviceFault h = absurd h
 words-refused-as words old (status.Limit l) h = absurd h
 words-refused-as words old (status.NotUpdated x) h = absurd h
 
-pub words-refused : (words : List (List ℕ)) (old : Held) (s : Status) (result : Result (List ℕ) Status) → WordsGive words (Err s) → result ≡ Err s → ImageGiven words old result old
+pub words-refused : (words : List (List ℕ)) (old : FilesState) (s : Status) (result : Result (List ℕ) Status) → WordsGive words (Err s) → result ≡ Err s → ImageGiven words old result old
 words-refused words old s result h e = let P : Result (List ℕ) Status → Type 0 = λ r. ImageGiven words old r old in subst P (sym e) (words-refused-as words old s h)

@@ -16,14 +16,14 @@ use Rattle.lk_model.specs.declared.commands.Command.{Command}
 use Rattle.lk_model.specs.declared.commands.Item.{Item}
 use Rattle.lk_model.specs.declared.commands.Item.TheVariants.{One, Lib}
 use Rattle.lk_model.specs.declared.commands.Word.{Word}
-use Rattle.lk_passes.specs.AnswerLaws.{answer_unless}
-use Rattle.lk_passes.specs.Asked.{has_library, is_library_row}
-use Rattle.lk_passes.specs.LookUps.{inputs_limit}
-use Rattle.lk_passes.specs.Refusals.{inputs_refusal}
-use Rattle.lk_passes.specs.Resolves.{IsCommand}
-use Rattle.lk_passes.proofs.AnswersTold.{refusals_told}
-use Rattle.lk_recorded.specs.CommandFits.{CommandFits}
-use Rattle.lk_recorded.proofs.CommandItems.{commands-fit}
+use Rattle.lk_inputs.specs.AnswerLaws.{answer_unless}
+use Rattle.lk_inputs.specs.Asked.{has_library, is_library_row}
+use Rattle.lk_inputs.specs.LookUps.{inputs_limit}
+use Rattle.lk_inputs.specs.Refusals.{inputs_refusal}
+use Rattle.lk_inputs.specs.Resolves.{IsCommand}
+use Rattle.lk_inputs.proofs.AnswersReported.{refusals_reported}
+use Rattle.lk_law_records.specs.CommandFits.{CommandFits}
+use Rattle.lk_law_records.proofs.CommandItems.{commands-fit}
 use Rattle.lk_driver.specs.ImageGiven.{IsAccepted}
 use Rattle.lk_driver.specs.Outer.{words_answer}
 
@@ -117,7 +117,7 @@ later c there = answer_unless (inputs_limit c) (answer_unless (inputs_refusal c 
 
 waits-first : (words : List (List ℕ)) (c : Command) (there : FileMap) → grammar words ≡ Ok c → static_answer words there ≡ answer_unless (words_wait c) (later c there)
 unfolding later
-waits-first words c there e = static-by words there (Ok c) e ∙ refusals_told c there
+waits-first words c there e = static-by words there (Ok c) e ∙ refusals_reported c there
 
 pub wait-static : (words : List (List ℕ)) (c : Command) (s : Status) (there : FileMap) → grammar words ≡ Ok c → words_wait c ≡ Some s → static_answer words there ≡ s
 wait-static words c s there e w = waits-first words c there e ∙ ap (λ o. answer_unless o (later c there)) w

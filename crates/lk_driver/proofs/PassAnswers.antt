@@ -1,4 +1,4 @@
--- What a pass of a link tells is lk_model's answer.
+-- What a pass of a link reports is lk_model's answer.
 use Rattle.std.proofs.Common.{◌≡◌, ◌≤◌, ◌^◌, refl, sym, ap, ◌∙◌, ℕ, Bool, true, false, List, length, Option, Some, None, Ok, Err}
 use Rattle.std.specs.Prelude.{if◌then◌else◌}
 use Rattle.lk_report.specs.declared.causes.OptionRecord.{OptionRecord}
@@ -17,10 +17,10 @@ use Rattle.lk_model.specs.Resolving.{resolve}
 use Rattle.lk_model.specs.Segments.{program_headers}
 use Rattle.lk_model.specs.Views.{Input, Resolved}
 use Rattle.lk_model.specs.declared.layouts.Placement.{Placement}
-use Rattle.lk_passes.specs.AnswerLaws.{answer_unless, scanned_answer}
-use Rattle.lk_passes.specs.Resolves.{found_in}
-use Rattle.lk_passes.proofs.AnswersTold.{above, below, faults_told_of, names_counted, some_faults}
-use Rattle.lk_resolve.specs.Settling.{SettleGives, Settled, most_names}
+use Rattle.lk_inputs.specs.AnswerLaws.{answer_unless, scanned_answer}
+use Rattle.lk_inputs.specs.Resolves.{found_in}
+use Rattle.lk_inputs.proofs.AnswersReported.{above, below, faults_reported_of, names_counted, some_faults}
+use Rattle.lk_resolve.specs.Settling.{SettleGives, ResolutionValue, most_names}
 use Rattle.lk_resolve.specs.declared.settle_faults.SettleFault.TheVariants as settle
 use Rattle.lk_driver.specs.LinkPasses.{needs_answer}
 
@@ -31,19 +31,19 @@ answer_by :
     → limit_fault limit.Names (2 ^ 20) (name_count r) ≡ too_many
     → fault_status (resolve_faults r) ≡ faults
     → resolved_answer r ≡ answer_unless too_many (answer_unless faults (scanned_answer r))
-answer_by r too_many faults many told = λ i. answer_unless (many i) (answer_unless (told i) (scanned_answer r))
+answer_by r too_many faults many reported = λ i. answer_unless (many i) (answer_unless (reported i) (scanned_answer r))
 
 few_names : (options : OptionRecord) (xs : List Input) → length (found_in options.entry xs).names ≤ most_names → limit_fault limit.Names (2 ^ 20) (name_count (resolve options xs)) ≡ None
 few_names options xs few =
     ap (limit_fault limit.Names (2 ^ 20)) (names_counted options xs) ∙ below limit.Names (2 ^ 20) (length (found_in options.entry xs).names) few
 
-pub settled_goes_on : (options : OptionRecord) (xs : List Input) (settled : Settled) → SettleGives (found_in options.entry xs) (Ok settled) → resolved_answer (resolve options xs) ≡ scanned_answer (resolve options xs)
-settled_goes_on options xs settled h = answer_by (resolve options xs) None None (few_names options xs h.0) (ap fault_status (faults_told_of options xs ∙ h.1))
+pub resolution_goes_on : (options : OptionRecord) (xs : List Input) (resolution : ResolutionValue) → SettleGives (found_in options.entry xs) (Ok resolution) → resolved_answer (resolve options xs) ≡ scanned_answer (resolve options xs)
+resolution_goes_on options xs resolution h = answer_by (resolve options xs) None None (few_names options xs h.0) (ap fault_status (faults_reported_of options xs ∙ h.1))
 
 pub names_at_fault : (options : OptionRecord) (xs : List Input) (faults : List Fault) → SettleGives (found_in options.entry xs) (Err (settle.Faults faults)) → resolved_answer (resolve options xs) ≡ status.LinkError faults
 names_at_fault options xs faults h =
     answer_by (resolve options xs) None (Some (status.LinkError faults)) (few_names options xs h.0)
-    (ap fault_status (faults_told_of options xs ∙ sym h.1) ∙ some_faults faults h.2)
+    (ap fault_status (faults_reported_of options xs ∙ sym h.1) ∙ some_faults faults h.2)
 
 pub too_many_names : (options : OptionRecord) (xs : List Input) (l : LimitFault) → SettleGives (found_in options.entry xs) (Err (settle.Limit l)) → resolved_answer (resolve options xs) ≡ status.Limit l
 too_many_names options xs l h =

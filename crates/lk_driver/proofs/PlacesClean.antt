@@ -8,10 +8,10 @@ use Rattle.lk_report.specs.FileMap.{FileMap}
 use Rattle.lk_model.specs.declared.commands.Command.{Command}
 use Rattle.lk_model.specs.declared.commands.Word.{Word}
 use Rattle.lk_model.specs.Inputs.{candidates_of, input_words, is_there, path_of, places_of, standard_dirs}
-use Rattle.lk_passes.specs.Asked.{all_places}
-use Rattle.lk_recorded.specs.CommandFits.{CommandFits}
-use Rattle.lk_recorded.specs.Recordable.{has_zero}
-use Rattle.lk_recorded.proofs.Lists.{all-append, all-flat, find-all}
+use Rattle.lk_inputs.specs.Asked.{all_places}
+use Rattle.lk_law_records.specs.CommandFits.{CommandFits}
+use Rattle.lk_law_records.specs.Recordable.{has_zero}
+use Rattle.lk_law_records.proofs.Lists.{all-append, all-flat, find-all}
 
 abbrev pub IsClean : List ℕ → Type 0
 IsClean text = has_zero text ≡ false

@@ -1,7 +1,7 @@
 -- This project's own: what code knows of an input's file by the types of its parts.
 use Rattle.std.specs.Prelude.{◌^◌, ◌<◌, All, length}
-use Rattle.lk_passes.specs.declared.input_files.InputFile.{InputFile}
-use Rattle.lk_recorded.specs.Recordable.{StampFits}
+use Rattle.lk_inputs.specs.declared.input_files.InputFile.{InputFile}
+use Rattle.lk_law_records.specs.Recordable.{StampFits}
 
 -- a file of bytes, with numbers that fit four and eight bytes
 pub record FileBytesFit (f : InputFile) : Type 0 where

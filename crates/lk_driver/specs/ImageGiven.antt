@@ -9,15 +9,15 @@ use Rattle.lk_model.specs.Answers.{full_link, words_wait}
 use Rattle.lk_model.specs.Grammar.{grammar}
 use Rattle.lk_model.specs.Inputs.{input_words}
 use Rattle.lk_model.specs.declared.commands.Command.{Command}
-use Rattle.lk_outside.specs.Held.{Held}
-use Rattle.lk_passes.specs.Asked.{AreSound, CommandAsked, IsOfReading, LimitFirst, StatusLast, StatusMisses, StatusNamed, all_places, has_library}
-use Rattle.lk_passes.specs.LookUps.{inputs_limit}
-use Rattle.lk_passes.specs.Refusals.{CommandInputs}
-use Rattle.lk_passes.specs.Told.{StatusCounts, map_told}
-use Rattle.lk_passes.specs.declared.input_files.InputFile.{InputFile}
-use Rattle.lk_passes.specs.declared.inputs.Inputs.{Inputs}
-use Rattle.lk_recorded.specs.CommandFits.{CommandFits}
-use Rattle.lk_driver.specs.Outer.{FilesKept, IsDue, IsImage, IsOfInputs, IsToldFirst, MissingTold, ReadFaultTold, words_answer}
+use Rattle.lk_outside.specs.FilesState.{FilesState}
+use Rattle.lk_inputs.specs.Asked.{AreSound, CommandAsked, IsOfReading, LimitFirst, StatusLast, StatusMisses, StatusNamed, all_places, has_library}
+use Rattle.lk_inputs.specs.LookUps.{inputs_limit}
+use Rattle.lk_inputs.specs.Refusals.{CommandInputs}
+use Rattle.lk_inputs.specs.FileAnswers.{StatusCounts, known_map}
+use Rattle.lk_inputs.specs.declared.input_files.InputFile.{InputFile}
+use Rattle.lk_inputs.specs.declared.inputs.Inputs.{Inputs}
+use Rattle.lk_law_records.specs.CommandFits.{CommandFits}
+use Rattle.lk_driver.specs.Outer.{FilesKept, IsDue, IsImage, IsOfInputs, IsFirstRefusal, MissingReported, ReadFaultReported, words_answer}
 
 -- ---- words
 
@@ -53,36 +53,36 @@ IsRefused (Err (status.Done how)) = ⊥
 IsRefused (Err status.DeviceFault) = ⊥
 IsRefused other = Unit {0}
 
--- what words alone decide is told before anything is asked of the files, and nothing else is told so
-abbrev pub ImageFirst : Option Status → Held → Result (List ℕ) Status → Held → Type 0
+-- what words alone decide is reported before anything is asked of the files, and nothing else is reported so
+abbrev pub ImageFirst : Option Status → FilesState → Result (List ℕ) Status → FilesState → Type 0
 ImageFirst None old result new = IsOfInputs (status_of result)
 ImageFirst (Some due) old (Ok image) new = ⊥
-ImageFirst (Some due) old (Err s) new = IsToldFirst due s × (new ≡ old)
+ImageFirst (Some due) old (Err s) new = IsFirstRefusal due s × (new ≡ old)
 
 -- where the files tell their map, an image is one of the words' command
-abbrev pub ImageTold : List (List ℕ) → Held → Result (List ℕ) Status → Type 0
-ImageTold words old (Ok image) = IfSome old.known (λ k. IsImage words k.map image)
-ImageTold words old (Err s) = Unit {0}
+abbrev pub ImageReported : List (List ℕ) → FilesState → Result (List ℕ) Status → Type 0
+ImageReported words old (Ok image) = IfSome old.known (λ k. IsImage words k.map image)
+ImageReported words old (Err s) = Unit {0}
 
 -- the image of the words' command, or why there is none; and what was done to the files
-pub record ImageGiven (words : List (List ℕ)) (old : Held) (result : Result (List ℕ) Status) (new : Held) : Type 0 where
+pub record ImageGiven (words : List (List ℕ)) (old : FilesState) (result : Result (List ℕ) Status) (new : FilesState) : Type 0 where
   pub refused : IsRefused result
   pub first : ImageFirst (words_answer words) old result new
   pub due : IsDue words old (status_of result)
-  pub image : ImageTold words old result
-  pub fault : ReadFaultTold words old (status_of result) new
-  pub missing : MissingTold old (status_of result) new
+  pub image : ImageReported words old result
+  pub fault : ReadFaultReported words old (status_of result) new
+  pub missing : MissingReported old (status_of result) new
   pub kept : FilesKept (words_answer words) words old (status_of result) new
 
 -- ---- the inputs that are read
 
 -- what reading the inputs of a command answers, and what it does to the files
-pub record ReadGiven (c : Command) (old : Held) (result : Result Inputs Status) (new : Held) : Type 0 where
-  pub map : map_told new ≡ map_told old
-  pub told : (there : FileMap) → map_told old ≡ Some there → CommandInputs (inputs_limit c) c there result
+pub record ReadGiven (c : Command) (old : FilesState) (result : Result Inputs Status) (new : FilesState) : Type 0 where
+  pub map : known_map new ≡ known_map old
+  pub reported : (there : FileMap) → known_map old ≡ Some there → CommandInputs (inputs_limit c) c there result
   pub faults : StatusCounts old result new
   pub limit : IsSome (inputs_limit c) → new ≡ old
-  pub asked : (there : FileMap) → map_told old ≡ Some there → CommandAsked c there old result new
+  pub asked : (there : FileMap) → known_map old ≡ Some there → CommandAsked c there old result new
   pub last : StatusLast old result new
   pub misses : has_library (input_words c) ≡ false → StatusMisses old result new
   pub named : StatusNamed (all_places c) result

@@ -8,7 +8,7 @@ use Rattle.lk_model.specs.Links.{IsLinkAt}
 use Rattle.lk_model.specs.Views.{Resolved}
 
 -- an image that is a link of what resolution finds, everything placed anew, where nothing is refused; else the
--- refusal. Want of memory may come at any time.
+-- refusal. Out of memory may come at any time.
 abbrev pub LinkAnswers : Resolved → Result (List ℕ) Status → Type 0
 LinkAnswers r (Ok image) = (resolved_answer r ≡ full_link) × IsLinkAt r (full_place r) image
 LinkAnswers r (Err status.NoMemory) = Unit {0}

@@ -11,15 +11,15 @@ use Rattle.lk_model.specs.Resolving.{resolve}
 use Rattle.lk_model.specs.Views.{Input, Resolved}
 use Rattle.lk_model.specs.declared.layouts.Needs.{Needs}
 use Rattle.lk_model.specs.declared.layouts.Placement.{Placement}
-use Rattle.lk_link_scan.specs.Scans.{InputsScanned}
-use Rattle.lk_link_scan.specs.declared.link_scanning.ScannedInputs.{ScannedInputs}
-use Rattle.lk_passes.specs.AnswerLaws.{answer_unless, scanned_answer}
-use Rattle.lk_passes.specs.Resolves.{found_in}
-use Rattle.lk_passes.specs.declared.input_files.InputFile.{InputFile}
-use Rattle.lk_passes.specs.declared.input_names.InputName.{InputName}
-use Rattle.lk_resolve.specs.Settling.{IsFound, Settled}
+use Rattle.lk_scan_inputs.specs.Scans.{InputsScanned}
+use Rattle.lk_scan_inputs.specs.declared.link_scanning.ScannedInputs.{ScannedInputs}
+use Rattle.lk_inputs.specs.AnswerLaws.{answer_unless, scanned_answer}
+use Rattle.lk_inputs.specs.Resolves.{found_in}
+use Rattle.lk_inputs.specs.declared.input_files.InputFile.{InputFile}
+use Rattle.lk_inputs.specs.declared.input_names.InputName.{InputName}
+use Rattle.lk_resolve.specs.Settling.{IsFound, ResolutionValue}
 
--- a link is refused: with the answer that is due, which is not that it is done, or for want of memory
+-- a link is refused: with the answer that is due, which is not that it is done, or for out of memory
 abbrev pub IsRefused : Status → Status → Type 0
 IsRefused due status.NoMemory = Unit {0}
 IsRefused due (status.Done how) = ⊥
@@ -36,9 +36,9 @@ abbrev pub needs_answer : Resolved → Status
 needs_answer r = answer_unless (needs_wait r) (placed_answer r (full_place r))
 
 -- what the resolution of inputs answers
-abbrev pub SettleAnswers : OptionRecord → List Input → Result Settled Status → Type 0
+abbrev pub SettleAnswers : OptionRecord → List Input → Result ResolutionValue Status → Type 0
 SettleAnswers options xs result =
-    PassGives (resolved_answer (resolve options xs)) (scanned_answer (resolve options xs)) (λ (settled : Settled). IsFound settled (found_in options.entry xs)) result
+    PassGives (resolved_answer (resolve options xs)) (scanned_answer (resolve options xs)) (λ (resolution : ResolutionValue). IsFound resolution (found_in options.entry xs)) result
 
 -- what the scan of the references of files answers
 abbrev pub IsScanned : Resolved → List InputFile → ScannedInputs → Type 0

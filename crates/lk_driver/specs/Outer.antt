@@ -15,10 +15,10 @@ use Rattle.lk_model.specs.Grammar.{grammar}
 use Rattle.lk_model.specs.Links.{IsFullLink}
 use Rattle.lk_model.specs.declared.commands.Command.{Command}
 use Rattle.lk_outside.specs.Disk.{Disk}
-use Rattle.lk_outside.specs.Held.{Held}
-use Rattle.lk_passes.specs.Asked.{Asked, AskedSome, MissedMaybe, MissesTold, all_places, failed_told, is_missing, look_ups_of, paths_read, reads_before}
-use Rattle.lk_passes.specs.LookUps.{inputs_limit}
-use Rattle.lk_passes.specs.Told.{map_told}
+use Rattle.lk_outside.specs.FilesState.{FilesState}
+use Rattle.lk_inputs.specs.Asked.{Asked, AskedSome, MissedMaybe, MissesReported, all_places, known_failed, is_missing, look_ups_of, paths_read, reads_before}
+use Rattle.lk_inputs.specs.LookUps.{inputs_limit}
+use Rattle.lk_inputs.specs.FileAnswers.{known_map}
 
 -- ---- words
 
@@ -29,10 +29,10 @@ words_answer words = elim (grammar words) [
   | Ok c ↦ elim (words_wait c) [ Some s ↦ Some s | None ↦ inputs_limit c ]
 ]
 
--- a status that is due, or want of memory
-abbrev pub IsToldFirst : Status → Status → Type 0
-IsToldFirst due status.NoMemory = Unit {0}
-IsToldFirst due s = s ≡ due
+-- a status that is due, or out of memory
+abbrev pub IsFirstRefusal : Status → Status → Type 0
+IsFirstRefusal due status.NoMemory = Unit {0}
+IsFirstRefusal due s = s ≡ due
 
 -- a status that words alone never decide
 abbrev pub IsOfInputs : Status → Type 0
@@ -41,14 +41,14 @@ IsOfInputs (status.NotYet waiting.Words) = ⊥
 IsOfInputs (status.Limit l) = l.which ≡ limit.Inputs → ⊥
 IsOfInputs s = Unit {0}
 
--- what words alone decide is told before anything of the outside is asked for, and nothing else is told so
-abbrev pub WordsFirst : Option Status → Held → Disk → Status → Held → Disk → Type 0
-WordsFirst (Some due) files disk s files_after disk_after = IsToldFirst due s × (files_after ≡ files) × (disk_after ≡ disk)
+-- what words alone decide is reported before anything of the outside is asked for, and nothing else is reported so
+abbrev pub WordsFirst : Option Status → FilesState → Disk → Status → FilesState → Disk → Type 0
+WordsFirst (Some due) files disk s files_after disk_after = IsFirstRefusal due s × (files_after ≡ files) × (disk_after ≡ disk)
 WordsFirst None files disk s files_after disk_after = IsOfInputs s
 
 -- ---- the answer and the image
 
--- an answer against the one that is due: a failed read or device and want of memory may stand in its
+-- an answer against the one that is due: a failed read or device and out of memory may be in its
 -- place, the device's only where the link is due to be done
 abbrev pub AnswerIs : Status → Status → Type 0
 AnswerIs (status.ReadFault path) due = Unit {0}
@@ -57,7 +57,7 @@ AnswerIs status.NoMemory due = Unit {0}
 AnswerIs s due = s ≡ due
 
 -- where the files tell their map, the answer is the one that the definitions give of words and map
-abbrev pub IsDue : List (List ℕ) → Held → Status → Type 0
+abbrev pub IsDue : List (List ℕ) → FilesState → Status → Type 0
 IsDue words files s = IfSome files.known (λ k. AnswerIs s (static_answer words k.map))
 
 -- the bytes are an image of the words' command
@@ -66,7 +66,7 @@ IsImage words files image = MatchOption (accepted_command words) ⊥ (λ c. IsFu
 
 -- a link that is done placed everything anew, and leaves an image of the command and the files, where
 -- both tell what they hold
-abbrev pub DoneLeaves : List (List ℕ) → Held → Status → Disk → Type 0
+abbrev pub DoneLeaves : List (List ℕ) → FilesState → Status → Disk → Type 0
 DoneLeaves words files (status.Done (outcome.Full None)) disk =
     IfSome files.known (λ k. IfSome disk.stored (λ s. IsImage words k.map s.bytes))
 DoneLeaves words files (status.Done other) disk = ⊥
@@ -79,26 +79,26 @@ abbrev pub NamesPlace : Option Command → List ℕ → Type 0
 NamesPlace None path = ⊥
 NamesPlace (Some c) path = Contains (all_places c) path
 
--- a failed read is told only where the files' faults rose; its name is a place of the command's inputs and the
--- path of the call that failed. Any other answer leaves the faults as they were, but for want of memory.
-abbrev pub ReadFaultTold : List (List ℕ) → Held → Status → Held → Type 0
-ReadFaultTold words old (status.ReadFault path) new =
+-- a failed read is reported only where the files' faults rose; its name is a place of the command's inputs and the
+-- path of the call that failed. Any other answer leaves the faults as they were, but for out of memory.
+abbrev pub ReadFaultReported : List (List ℕ) → FilesState → Status → FilesState → Type 0
+ReadFaultReported words old (status.ReadFault path) new =
     Rose old.faults new.faults × NamesPlace (accepted_command words) path × IfSome new.known (λ k. k.failed ≡ Some path)
-ReadFaultTold words old status.NoMemory new = Unit {0}
-ReadFaultTold words old other new = new.faults ≡ old.faults
+ReadFaultReported words old status.NoMemory new = Unit {0}
+ReadFaultReported words old other new = new.faults ≡ old.faults
 
--- a failed device is told only where the device's faults rose; any other answer leaves them
-abbrev pub DeviceFaultTold : Disk → Status → Disk → Type 0
-DeviceFaultTold old status.DeviceFault new = Rose old.faults new.faults
-DeviceFaultTold old other new = new.faults ≡ old.faults
+-- a failed device is reported only where the device's faults rose; any other answer leaves them
+abbrev pub DeviceFaultReported : Disk → Status → Disk → Type 0
+DeviceFaultReported old status.DeviceFault new = Rose old.faults new.faults
+DeviceFaultReported old other new = new.faults ≡ old.faults
 
--- a missing input is told only where the misses rose. Any other answer leaves them as they were; but a failed read
--- may come after an input that is missing, and want of memory at any time
-abbrev pub MissingTold : Held → Status → Held → Type 0
-MissingTold old (status.LinkError faults) new = MissesTold (list_any is_missing faults) old new
-MissingTold old (status.ReadFault path) new = MissedMaybe old new
-MissingTold old status.NoMemory new = Unit {0}
-MissingTold old other new = new.misses ≡ old.misses
+-- a missing input is reported only where the misses rose. Any other answer leaves them as they were; but a failed read
+-- may come after an input that is missing, and out of memory at any time
+abbrev pub MissingReported : FilesState → Status → FilesState → Type 0
+MissingReported old (status.LinkError faults) new = MissesReported (list_any is_missing faults) old new
+MissingReported old (status.ReadFault path) new = MissedMaybe old new
+MissingReported old status.NoMemory new = Unit {0}
+MissingReported old other new = new.misses ≡ old.misses
 
 -- but for a link that is done or a device that failed, the device is as it was: its file, the ranges
 -- written and its count
@@ -110,8 +110,8 @@ DeviceKept old other new = new ≡ old
 -- ---- what the files were asked for
 
 -- each place of an input is looked up in turn, up to the first that has a file, and then each input is read once, in
--- command order. But inputs of which one is missing are not read; a limit, a failed call and want of memory end it.
-abbrev pub StatusAsked : Command → FileMap → Held → Status → Held → Type 0
+-- command order. But inputs of which one is missing are not read; a limit, a failed call and out of memory end it.
+abbrev pub StatusAsked : Command → FileMap → FilesState → Status → FilesState → Type 0
 StatusAsked c there old (status.LinkError faults) new = Asked (look_ups_of c there) (reads_before (list_any is_missing faults) c there) old new
 StatusAsked c there old (status.Limit l) new = AskedSome (look_ups_of c there) (paths_read c there) old new
 StatusAsked c there old (status.ReadFault path) new = AskedSome (look_ups_of c there) (paths_read c there) old new
@@ -119,17 +119,17 @@ StatusAsked c there old status.NoMemory new = AskedSome (look_ups_of c there) (p
 StatusAsked c there old other new = Asked (look_ups_of c there) (paths_read c there) old new
 
 -- the last call that failed stays the one that it was, where none failed
-abbrev pub LastKept : Held → Status → Held → Type 0
+abbrev pub LastKept : FilesState → Status → FilesState → Type 0
 LastKept old (status.ReadFault path) new = Unit {0}
 LastKept old status.NoMemory new = Unit {0}
-LastKept old other new = failed_told new ≡ failed_told old
+LastKept old other new = known_failed new ≡ known_failed old
 
 -- where words decide nothing alone, the files keep their map, and are asked for the command's inputs alone
-pub record InputsAsked (words : List (List ℕ)) (old : Held) (s : Status) (new : Held) : Type 0 where
-  pub map : map_told new ≡ map_told old
-  pub asked : (c : Command) (there : FileMap) → grammar words ≡ Ok c → map_told old ≡ Some there → StatusAsked c there old s new
+pub record InputsAsked (words : List (List ℕ)) (old : FilesState) (s : Status) (new : FilesState) : Type 0 where
+  pub map : known_map new ≡ known_map old
+  pub asked : (c : Command) (there : FileMap) → grammar words ≡ Ok c → known_map old ≡ Some there → StatusAsked c there old s new
   pub last : LastKept old s new
 
-abbrev pub FilesKept : Option Status → List (List ℕ) → Held → Status → Held → Type 0
+abbrev pub FilesKept : Option Status → List (List ℕ) → FilesState → Status → FilesState → Type 0
 FilesKept (Some due) words old s new = new ≡ old
 FilesKept None words old s new = InputsAsked words old s new

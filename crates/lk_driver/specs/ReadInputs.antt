@@ -4,10 +4,10 @@ use Rattle.std.specs.List.{AllByRecursion}
 use Rattle.lk_report.specs.declared.causes.OptionRecord.{OptionRecord}
 use Rattle.lk_model.specs.Answers.{shared_waits}
 use Rattle.lk_model.specs.Views.{Input}
-use Rattle.lk_link_scan.specs.Objects.{AreObjects}
-use Rattle.lk_passes.specs.Refusals.{AreInputs}
-use Rattle.lk_passes.specs.declared.inputs.Inputs.{Inputs}
-use Rattle.lk_recorded.specs.Recordable.{OptionsFit, has_zero}
+use Rattle.lk_scan_inputs.specs.Objects.{AreObjects}
+use Rattle.lk_inputs.specs.Refusals.{AreInputs}
+use Rattle.lk_inputs.specs.declared.inputs.Inputs.{Inputs}
+use Rattle.lk_law_records.specs.Recordable.{OptionsFit, has_zero}
 use Rattle.lk_records.specs.Occurrences.{OccurrencesAreRight}
 
 -- these are the files and summaries of inputs, which are objects without a fault; no text of theirs or of the

@@ -3,9 +3,9 @@
 ghost use Rattle.std.specs.Prelude.{◌≤◌, ◌<◌, ◌^◌, All, length};
 ghost use Rattle.std.specs.List.{AllByRecursion};
 ghost use Rattle.lk_driver.specs.FileBytes.{FileBytesFit};
-ghost use Rattle.lk_recorded.specs.Recordable.{StampFits};
+ghost use Rattle.lk_law_records.specs.Recordable.{StampFits};
 
-use lk_passes::InputFile;
+use lk_inputs::InputFile;
 use lk_report::Stamp;
 
 /// Bytes are below 256.

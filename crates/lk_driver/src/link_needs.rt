@@ -5,7 +5,7 @@ ghost use Rattle.lk_model.specs.Answers.{is_empty, needs_nothing};
 ghost use Rattle.lk_driver.specs.LinkPasses.{NeedsAnswer, path_of_first};
 
 use lk_model::layouts::Needs;
-use lk_passes::InputName;
+use lk_inputs::InputName;
 use lk_report::{List, Name, NoMemory, Status, Waiting};
 use std::alloc::Global;
 
@@ -40,7 +40,7 @@ fn path_of_first(alloc: Global, names: &[InputName]) -> Result<Name, NoMemory>
 /// "Global Offset Table", "Procedure Linkage Table").
 ///
 /// # Errors
-/// `NotYet` with the path of the first input; want of memory.
+/// `NotYet` with the path of the first input; out of memory.
 pub(crate) fn check_needs(alloc: Global, needs: &Needs, names: &[InputName]) -> Result<(), Status>
     ensures { NeedsAnswer needs.now names.now result }
 {

@@ -1,23 +1,23 @@
 //! The passes of a link of inputs that were read, each with the status that it ends the link with.
 
 ghost use Rattle.std.specs.Prelude.{◌≡◌, ◌≤◌, List, [], filter_map, length, map, IfOk};
-ghost use Rattle.lk_report.specs.declared.causes.OptionRecord.{OptionRecord as OptionsTold};
+ghost use Rattle.lk_report.specs.declared.causes.OptionRecord.{OptionRecord as OptionsReported};
 ghost use Rattle.lk_model.specs.Resolving.{resolve};
 ghost use Rattle.lk_model.specs.Views.{Input};
-ghost use Rattle.lk_link_scan.specs.Objects.{AreObjects};
-ghost use Rattle.lk_passes.specs.FilesRead.{fault_in, summary_of};
-ghost use Rattle.lk_passes.specs.Named.{files_of};
-ghost use Rattle.lk_passes.specs.Refusals.{AreInputs};
-ghost use Rattle.lk_passes.specs.Resolves.{found_in};
+ghost use Rattle.lk_scan_inputs.specs.Objects.{AreObjects};
+ghost use Rattle.lk_inputs.specs.FilesRead.{fault_in, summary_of};
+ghost use Rattle.lk_inputs.specs.Named.{files_of};
+ghost use Rattle.lk_inputs.specs.Refusals.{AreInputs};
+ghost use Rattle.lk_inputs.specs.Resolves.{found_in};
 ghost use Rattle.lk_resolve.specs.Settling.{IsFound};
-ghost use Rattle.lk_table_sizes.specs.Given.{IsGiven};
+ghost use Rattle.lk_dyn_sizes.specs.Given.{IsGiven};
 ghost use Rattle.lk_driver.specs.LinkPasses.{PlaceAnswers, ScanAnswers, SettleAnswers};
 
 use lk_layout::full_layout;
-use lk_link_scan::{ScannedInputs, scan_inputs};
+use lk_scan_inputs::{ScannedInputs, scan_inputs};
 use lk_model::layouts::{LayoutFault, Needs, Placement};
 use lk_model::summaries::{InputSummary, SummaryList};
-use lk_passes::{InputFileList, Inputs, resolve_inputs};
+use lk_inputs::{InputFileList, Inputs, resolve_inputs};
 use lk_report::{OptionRecord, Status};
 use lk_resolve::{Resolution, SettleFault};
 use lk_scan::ScanFailure;
@@ -26,15 +26,15 @@ use std::alloc::Global;
 /// What the inputs decide: those that are added, names and their definitions, kept sections.
 ///
 /// # Errors
-/// More names than 2^20; else the faults of the names; want of memory.
+/// More names than 2^20; else the faults of the names; out of memory.
 pub(crate) fn settle(
     alloc: Global,
     options: &OptionRecord,
     inputs: &Inputs,
 ) -> Result<Resolution, Status>
     requires { length inputs.now.files ≡ length inputs.now.summaries }
-    ensures settled { (xs : List Input) → AreInputs xs inputs.now → SettleAnswers options.now xs result }
-    ensures numbered { IfOk result (λ settled. length settled.paths ≡ length inputs.now.files) }
+    ensures resolution { (xs : List Input) → AreInputs xs inputs.now → SettleAnswers options.now xs result }
+    ensures numbered { IfOk result (λ resolution. length resolution.paths ≡ length inputs.now.files) }
 {
     let files = inputs.files.as_slice();
     let summaries = inputs.summaries.as_slice();
@@ -50,7 +50,7 @@ pub(crate) fn settle(
 /// these are the summaries of the files, by number.
 ///
 /// # Errors
-/// The faults of the references; want of memory.
+/// The faults of the references; out of memory.
 pub(crate) fn scan(
     alloc: Global,
     files: InputFileList,
@@ -60,7 +60,7 @@ pub(crate) fn scan(
     requires sound { filter_map fault_in files ≡ [] }
     requires summaries { summaries.now ≡ map summary_of files }
     requires numbered { length files ≤ length resolution.now.paths }
-    ensures scanned { (options : OptionsTold) (xs : List Input) → files ≡ files_of xs → AreObjects xs → IsFound resolution.now (found_in options.entry xs) → ScanAnswers (resolve options xs) files result }
+    ensures scanned { (options : OptionsReported) (xs : List Input) → files ≡ files_of xs → AreObjects xs → IsFound resolution.now (found_in options.entry xs) → ScanAnswers (resolve options xs) files result }
     ensures count { IfOk result (λ scanned. length scanned.names ≡ length files) }
 {
     match scan_inputs(alloc, files, summaries, resolution) {
@@ -73,7 +73,7 @@ pub(crate) fn scan(
 /// Where the link puts everything.
 ///
 /// # Errors
-/// More output sections than 60,000; more memory than 2 GiB; want of memory.
+/// More output sections than 60,000; more memory than 2 GiB; out of memory.
 pub(crate) fn place(
     alloc: Global,
     options: &OptionRecord,

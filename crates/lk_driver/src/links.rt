@@ -3,7 +3,7 @@
 ghost use Rattle.std.specs.Prelude.{◌≡◌, ◌≤◌, ◌^◌, List, length, All};
 ghost use Rattle.lk_model.specs.Resolving.{resolve};
 ghost use Rattle.lk_model.specs.Views.{Input};
-ghost use Rattle.lk_passes.specs.Asked.{AreSound};
+ghost use Rattle.lk_inputs.specs.Asked.{AreSound};
 ghost use Rattle.lk_driver.specs.LinkAnswers.{LinkAnswers};
 ghost use Rattle.lk_driver.specs.LinkPasses.{LinkGives, needs_answer};
 ghost use Rattle.lk_driver.specs.ReadInputs.{AreReadInputs};
@@ -13,9 +13,9 @@ use crate::file_numbers::files_fit;
 use crate::link_needs::check_needs;
 use crate::link_passes::{place, scan, settle};
 use lk_image::link_image;
-use lk_link_scan::ScannedInputs;
+use lk_scan_inputs::ScannedInputs;
 use lk_model::summaries::SummaryList;
-use lk_passes::Inputs;
+use lk_inputs::Inputs;
 use lk_report::{Bytes, OptionRecord, Status};
 use lk_resolve::Resolution;
 use std::alloc::Global;
@@ -51,7 +51,7 @@ fn link_scanned(
 /// # Errors
 /// The first of these: too many names, or the faults of names; the faults of references; a link that needs a slot,
 /// an entry or a copy, which is not built yet; a limit on sections, memory, program headers or the image; the values
-/// that do not fit their fields. Want of memory at any time.
+/// that do not fit their fields. Out of memory at any time.
 pub(crate) fn link_inputs(
     alloc: Global,
     options: &OptionRecord,

@@ -5,14 +5,14 @@ ghost use Rattle.lk_report.specs.Spoken.{Says};
 ghost use Rattle.lk_report.specs.Texts.{text_of};
 ghost use Rattle.lk_driver.specs.Committing.{IsCommitted};
 ghost use Rattle.lk_driver.specs.ImageGiven.{ImageGiven, IsAccepted};
-ghost use Rattle.lk_driver.specs.Outer.{IsDue, DoneLeaves, ReadFaultTold, DeviceFaultTold, MissingTold, DeviceKept, FilesKept, WordsFirst, words_answer};
+ghost use Rattle.lk_driver.specs.Outer.{IsDue, DoneLeaves, ReadFaultReported, DeviceFaultReported, MissingReported, DeviceKept, FilesKept, WordsFirst, words_answer};
 
 use crate::commits::commit;
 use crate::links::link_inputs;
 use crate::words::accepted_command;
 use lk_model::commands::Command;
 use lk_outside::{Answer, Device, Files, Turnstile};
-use lk_passes::read_command;
+use lk_inputs::read_command;
 use lk_report::{Bytes, NameList, Outcome, Sink, Status, say};
 use std::alloc::Global;
 
@@ -22,7 +22,7 @@ use std::alloc::Global;
 /// those that are not built yet; too many inputs; a failed look-up; all missing inputs; a failed read, or a limit on
 /// sizes, as soon as it is met; a shared input, which is not built yet; all faults of inputs; too many names, or the
 /// faults of names; the faults of references; needs, which are not built yet; a limit on sections, memory, program
-/// headers or the image; values that do not fit; a failed device. Want of memory at any place before the device is
+/// headers or the image; values that do not fit; a failed device. Out of memory at any place before the device is
 /// touched.
 pub fn run_alone<F: Files, D: Device, S: Sink, G: Turnstile>(
     alloc: Global,
@@ -32,14 +32,14 @@ pub fn run_alone<F: Files, D: Device, S: Sink, G: Turnstile>(
     says: &mut S,
     _gate: &G,
 ) -> Status
-    ensures words_first { WordsFirst (words_answer words.now) (F.held files.old) (D.disk out.old) result (F.held files.new) (D.disk out.new) }
-    ensures answer { IsDue words.now (F.held files.old) result }
-    ensures done { DoneLeaves words.now (F.held files.old) result (D.disk out.new) }
-    ensures read_fault { ReadFaultTold words.now (F.held files.old) result (F.held files.new) }
-    ensures device_fault { DeviceFaultTold (D.disk out.old) result (D.disk out.new) }
-    ensures missing { MissingTold (F.held files.old) result (F.held files.new) }
+    ensures words_first { WordsFirst (words_answer words.now) (F.state files.old) (D.disk out.old) result (F.state files.new) (D.disk out.new) }
+    ensures answer { IsDue words.now (F.state files.old) result }
+    ensures done { DoneLeaves words.now (F.state files.old) result (D.disk out.new) }
+    ensures read_fault { ReadFaultReported words.now (F.state files.old) result (F.state files.new) }
+    ensures device_fault { DeviceFaultReported (D.disk out.old) result (D.disk out.new) }
+    ensures missing { MissingReported (F.state files.old) result (F.state files.new) }
     ensures untouched { DeviceKept (D.disk out.old) result (D.disk out.new) }
-    ensures files_kept { FilesKept (words_answer words.now) words.now (F.held files.old) result (F.held files.new) }
+    ensures files_kept { FilesKept (words_answer words.now) words.now (F.state files.old) result (F.state files.new) }
     ensures said { Says (S.spoken says.old) (S.spoken says.new) (text_of result) }
 {
     let status = link(alloc, words, files, out);
@@ -49,14 +49,14 @@ pub fn run_alone<F: Files, D: Device, S: Sink, G: Turnstile>(
 
 /// Links what the words ask for.
 fn link<F: Files, D: Device>(alloc: Global, words: &NameList, files: &mut F, out: &mut D) -> Status
-    ensures words_first { WordsFirst (words_answer words.now) (F.held files.old) (D.disk out.old) result (F.held files.new) (D.disk out.new) }
-    ensures answer { IsDue words.now (F.held files.old) result }
-    ensures done { DoneLeaves words.now (F.held files.old) result (D.disk out.new) }
-    ensures read_fault { ReadFaultTold words.now (F.held files.old) result (F.held files.new) }
-    ensures device_fault { DeviceFaultTold (D.disk out.old) result (D.disk out.new) }
-    ensures missing { MissingTold (F.held files.old) result (F.held files.new) }
+    ensures words_first { WordsFirst (words_answer words.now) (F.state files.old) (D.disk out.old) result (F.state files.new) (D.disk out.new) }
+    ensures answer { IsDue words.now (F.state files.old) result }
+    ensures done { DoneLeaves words.now (F.state files.old) result (D.disk out.new) }
+    ensures read_fault { ReadFaultReported words.now (F.state files.old) result (F.state files.new) }
+    ensures device_fault { DeviceFaultReported (D.disk out.old) result (D.disk out.new) }
+    ensures missing { MissingReported (F.state files.old) result (F.state files.new) }
     ensures untouched { DeviceKept (D.disk out.old) result (D.disk out.new) }
-    ensures files_kept { FilesKept (words_answer words.now) words.now (F.held files.old) result (F.held files.new) }
+    ensures files_kept { FilesKept (words_answer words.now) words.now (F.state files.old) result (F.state files.new) }
 {
     match image_of_words(alloc, words, files) {
         Ok(image) => commit_image(out, &image),
@@ -69,7 +69,7 @@ fn link<F: Files, D: Device>(alloc: Global, words: &NameList, files: &mut F, out
 /// # Errors
 /// The first faulty word; words that are not built yet; those of `image_of_command`.
 fn image_of_words<F: Files>(alloc: Global, words: &NameList, files: &mut F) -> Result<Bytes, Status>
-    ensures { ImageGiven words.now (F.held files.old) result (F.held files.new) }
+    ensures { ImageGiven words.now (F.state files.old) result (F.state files.new) }
 {
     let command = accepted_command(alloc, words)?;
     image_of_command(alloc, &command, files)
@@ -84,7 +84,7 @@ fn image_of_command<F: Files>(
     command: &Command,
     files: &mut F,
 ) -> Result<Bytes, Status>
-    ensures { (words : List (List ℕ)) → IsAccepted words command.now → ImageGiven words (F.held files.old) result (F.held files.new) }
+    ensures { (words : List (List ℕ)) → IsAccepted words command.now → ImageGiven words (F.state files.old) result (F.state files.new) }
 {
     let inputs = read_command(alloc, command, files)?;
     link_inputs(alloc, &command.options, inputs)

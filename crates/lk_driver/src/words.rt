@@ -4,23 +4,23 @@ ghost use Rattle.std.specs.Prelude.{◌≡◌, IfOk};
 ghost use Rattle.std.specs.List.{list_any};
 ghost use Rattle.lk_model.specs.Answers.{is_full as full_mode, is_library, waits_words, words_in};
 ghost use Rattle.lk_model.specs.Grammar.{output_of_words};
-ghost use Rattle.lk_passes.specs.Resolves.{IsCommand};
-ghost use Rattle.lk_recorded.specs.CommandFits.{CommandFits};
+ghost use Rattle.lk_inputs.specs.Resolves.{IsCommand};
+ghost use Rattle.lk_law_records.specs.CommandFits.{CommandFits};
 ghost use Rattle.lk_driver.specs.ImageGiven.{OutputUnless, WordsGive};
 
 use lk_model::commands::{Command, Item, Mode, Word};
-use lk_passes::command_of;
+use lk_inputs::command_of;
 use lk_report::{Name, NameList, NoMemory, Status, Waiting};
 use std::alloc::Global;
 
-/// A command of so many words and more, 2^30, is answered as want of memory: its numbers have no room in what an
+/// A command of so many words and more, 2^30, is answered as out of memory: its numbers have no room in what an
 /// image records.
 const MOST_WORDS: usize = 0x4000_0000;
 
 /// The command that words are.
 ///
 /// # Errors
-/// The first faulty word; want of memory.
+/// The first faulty word; out of memory.
 fn command_of_words(alloc: Global, words: &NameList) -> Result<Command, Status>
     ensures command { IsCommand words.now result }
     ensures fits { IfOk result (λ command. CommandFits command) }
@@ -73,7 +73,7 @@ fn waits(command: &Command) -> bool
 /// The command that words are, where a link of it can be begun.
 ///
 /// # Errors
-/// The first faulty word; else a command that is not built yet; want of memory.
+/// The first faulty word; else a command that is not built yet; out of memory.
 pub fn accepted_command(alloc: Global, words: &NameList) -> Result<Command, Status>
     ensures { WordsGive words.now result }
 {
@@ -95,7 +95,7 @@ pub fn output_of(alloc: Global, words: &NameList) -> Result<Name, NoMemory>
     }
 }
 
-/// The path of the output of refused words; want of memory at any other status.
+/// The path of the output of refused words; out of memory at any other status.
 fn output_unless(alloc: Global, status: &Status) -> Result<Name, NoMemory>
     ensures { OutputUnless status.now result }
 {

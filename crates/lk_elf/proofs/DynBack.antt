@@ -7,7 +7,7 @@ use Rattle.lk_elf.specs.declared.dynamic_entry.Dyn.{Dyn}
 use Rattle.lk_elf.proofs.Signed.{signed64-unsigned64, unsigned64-lt}
 use Rattle.lk_elf.proofs.Writing.{num_back}
 
--- an entry of the dynamic section that stands between two lists is read back
+-- an entry of the dynamic section that is between two lists is read back
 pub dyn_at-dyn_bytes : (at : ℕ) (pre post : List ℕ) (entry : Dyn) → length pre ≡ at
     → SFits w64 entry.d_tag → entry.d_un < 2 ^ 64
     → dyn_at (pre ++ dyn_bytes entry ++ post) at ≡ entry

@@ -23,12 +23,12 @@ numbers_bytes header =
     ++ bytes_of 2 header.e_shnum
     ++ bytes_of 2 header.e_shstrndx
 
--- the identification stands in front of the other fields
+-- the identification is in front of the other fields
 ident_first : (pre post : List ℕ) (header : Ehdr) → pre ++ ehdr_bytes header ++ post ≡ (pre ++ header.e_ident) ++ numbers_bytes header ++ post
 unfolding ehdr_bytes numbers_bytes
 ident_first pre post header = simp append_assoc
 
--- the header of a file that stands between two lists is read back
+-- the header of a file that is between two lists is read back
 pub ehdr_at-ehdr_bytes : (at : ℕ) (pre post : List ℕ) (header : Ehdr) → length pre ≡ at → length header.e_ident ≡ 16
     → header.e_type < 2 ^ 16 → header.e_machine < 2 ^ 16 → header.e_version < 2 ^ 32 → header.e_entry < 2 ^ 64 → header.e_phoff < 2 ^ 64 → header.e_shoff < 2 ^ 64 → header.e_flags < 2 ^ 32 → header.e_ehsize < 2 ^ 16 → header.e_phentsize < 2 ^ 16 → header.e_phnum < 2 ^ 16 → header.e_shentsize < 2 ^ 16 → header.e_shnum < 2 ^ 16 → header.e_shstrndx < 2 ^ 16
     → ehdr_at (pre ++ ehdr_bytes header ++ post) at ≡ header

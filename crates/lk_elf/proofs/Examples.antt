@@ -10,7 +10,7 @@ use Rattle.lk_elf.specs.declared.symbol.Sym.{Sym}
 use Rattle.lk_elf.specs.declared.relocation.Rela.{Rela}
 use Rattle.lk_elf.specs.declared.dynamic_entry.Dyn.{Dyn}
 
--- the lowest byte stands first
+-- the lowest byte is first
 lowest_first : number_of (1 ∷ 2 ∷ 3 ∷ []) ≡ 197121
 unfolding number_of
 lowest_first = refl
@@ -58,7 +58,7 @@ unsigned_minus_four : unsigned64 (negsuc 3) ≡ 18446744073709551612
 unfolding unsigned64
 unsigned_minus_four = refl
 
--- the header of an object for x86-64 with twelve sections, whose headers stand at 632
+-- the header of an object for x86-64 with twelve sections, whose headers are at 632
 abbrev object_header : List ℕ
 object_header = 127 ∷ 69 ∷ 76 ∷ 70 ∷ 2 ∷ 1 ∷ 1 ∷ 0 ∷ 0 ∷ 0 ∷ 0 ∷ 0 ∷ 0 ∷ 0 ∷ 0 ∷ 0 ∷ 1 ∷ 0 ∷ 62 ∷ 0 ∷ 1 ∷ 0 ∷ 0 ∷ 0 ∷ 0 ∷ 0 ∷ 0 ∷ 0 ∷ 0 ∷ 0 ∷ 0 ∷ 0 ∷ 0 ∷ 0 ∷ 0 ∷ 0 ∷ 0 ∷ 0 ∷ 0 ∷ 0 ∷ 120 ∷ 2 ∷ 0 ∷ 0 ∷ 0 ∷ 0 ∷ 0 ∷ 0 ∷ 0 ∷ 0 ∷ 0 ∷ 0 ∷ 64 ∷ 0 ∷ 0 ∷ 0 ∷ 0 ∷ 0 ∷ 64 ∷ 0 ∷ 12 ∷ 0 ∷ 11 ∷ 0 ∷ []
 

@@ -5,7 +5,7 @@ use Rattle.lk_elf.specs.Records.{phdr_at, phdr_bytes}
 use Rattle.lk_elf.specs.declared.program_header.Phdr.{Phdr}
 use Rattle.lk_elf.proofs.Writing.{num_back}
 
--- a program header that stands between two lists is read back
+-- a program header that is between two lists is read back
 pub phdr_at-phdr_bytes : (at : ℕ) (pre post : List ℕ) (header : Phdr) → length pre ≡ at
     → header.p_type < 2 ^ 32 → header.p_flags < 2 ^ 32 → header.p_offset < 2 ^ 64 → header.p_vaddr < 2 ^ 64 → header.p_paddr < 2 ^ 64 → header.p_filesz < 2 ^ 64 → header.p_memsz < 2 ^ 64 → header.p_align < 2 ^ 64
     → phdr_at (pre ++ phdr_bytes header ++ post) at ≡ header

@@ -7,7 +7,7 @@ use Rattle.lk_elf.specs.declared.relocation.Rela.{Rela}
 use Rattle.lk_elf.proofs.Signed.{signed64-unsigned64, unsigned64-lt}
 use Rattle.lk_elf.proofs.Writing.{num_back}
 
--- a relocation with an addend that stands between two lists is read back
+-- a relocation with an addend that is between two lists is read back
 pub rela_at-rela_bytes : (at : ℕ) (pre post : List ℕ) (relocation : Rela) → length pre ≡ at
     → relocation.r_offset < 2 ^ 64 → relocation.r_info < 2 ^ 64 → SFits w64 relocation.r_addend
     → rela_at (pre ++ rela_bytes relocation ++ post) at ≡ relocation

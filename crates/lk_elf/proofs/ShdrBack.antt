@@ -5,7 +5,7 @@ use Rattle.lk_elf.specs.Records.{shdr_at, shdr_bytes}
 use Rattle.lk_elf.specs.declared.section_header.Shdr.{Shdr}
 use Rattle.lk_elf.proofs.Writing.{num_back}
 
--- a section header that stands between two lists is read back
+-- a section header that is between two lists is read back
 pub shdr_at-shdr_bytes : (at : ℕ) (pre post : List ℕ) (header : Shdr) → length pre ≡ at
     → header.sh_name < 2 ^ 32 → header.sh_type < 2 ^ 32 → header.sh_flags < 2 ^ 64 → header.sh_addr < 2 ^ 64 → header.sh_offset < 2 ^ 64 → header.sh_size < 2 ^ 64 → header.sh_link < 2 ^ 32 → header.sh_info < 2 ^ 32 → header.sh_addralign < 2 ^ 64 → header.sh_entsize < 2 ^ 64
     → shdr_at (pre ++ shdr_bytes header ++ post) at ≡ header

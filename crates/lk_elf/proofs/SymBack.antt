@@ -5,7 +5,7 @@ use Rattle.lk_elf.specs.Records.{sym_at, sym_bytes}
 use Rattle.lk_elf.specs.declared.symbol.Sym.{Sym}
 use Rattle.lk_elf.proofs.Writing.{num_back}
 
--- a symbol that stands between two lists is read back
+-- a symbol that is between two lists is read back
 pub sym_at-sym_bytes : (at : ℕ) (pre post : List ℕ) (symbol : Sym) → length pre ≡ at
     → symbol.st_name < 2 ^ 32 → symbol.st_info < 2 ^ 8 → symbol.st_other < 2 ^ 8 → symbol.st_shndx < 2 ^ 16 → symbol.st_value < 2 ^ 64 → symbol.st_size < 2 ^ 64
     → sym_at (pre ++ sym_bytes symbol ++ post) at ≡ symbol

@@ -59,7 +59,7 @@ drop_within at k p pre xs post len place =
     ∙ sym (drop-drop k at (pre ++ xs ++ post))
     ∙ ap (drop k) (ap (drop at) (append_assoc pre xs post) ∙ drop_at pre (xs ++ post) at len)
 
--- a field of a record that stands between two lists
+-- a field of a record that is between two lists
 pub num_within : (at k p w : ℕ) (pre xs post : List ℕ) → length pre ≡ at → p ≡ at + k
     → num (pre ++ xs ++ post) p w ≡ number_of (take w (drop k (xs ++ post)))
 unfolding num

@@ -1,4 +1,4 @@
--- The records of ELF64 (gABI): each is the tuple of its fields, which stand in this order without gaps. `ehdr_at bytes at` is the header at `at`, `ehdr_bytes` its bytes, and so on.
+-- The records of ELF64 (gABI): each is the tuple of its fields, which are in this order without gaps. `ehdr_at bytes at` is the header at `at`, `ehdr_bytes` its bytes, and so on.
 use Rattle.std.specs.Prelude.{ℕ, ◌+◌, List, ◌++◌, take, drop}
 use Rattle.lk_elf.specs.Fields.{bytes_of, num, signed64, unsigned64}
 use Rattle.lk_elf.specs.declared.file_header.Ehdr.{Ehdr}

@@ -18,7 +18,7 @@ pub struct Dyn {
 }
 
 impl Dyn {
-    /// Reads an entry of the dynamic section from the 16 bytes at `at`, or tells that they are not all there. Takes no
+    /// Reads an entry of the dynamic section from the 16 bytes at `at`, or reports that they are not all there. Takes no
     /// memory.
     pub fn read_at(bytes: &[u8], at: usize) -> Result<Dyn, Short>
         ensures { Gives 16 bytes.now at (dyn_at bytes.now at) result }

@@ -21,9 +21,9 @@ pub struct Ehdr {
     pub e_version: u32,
     /// The address where the program starts, or 0.
     pub e_entry: u64,
-    /// Where the program headers stand in the file, in bytes, or 0.
+    /// Where the program headers are in the file, in bytes, or 0.
     pub e_phoff: u64,
-    /// Where the section headers stand in the file, in bytes, or 0.
+    /// Where the section headers are in the file, in bytes, or 0.
     pub e_shoff: u64,
     /// Flags of the machine.
     pub e_flags: u32,
@@ -42,7 +42,7 @@ pub struct Ehdr {
 }
 
 impl Ehdr {
-    /// Reads the header of a file from the 64 bytes at `at`, or tells that they are not all there. Takes no
+    /// Reads the header of a file from the 64 bytes at `at`, or reports that they are not all there. Takes no
     /// memory.
     pub fn read_at(bytes: &[u8], at: usize) -> Result<Ehdr, Short>
         ensures { Gives 64 bytes.now at (ehdr_at bytes.now at) result }

@@ -11,7 +11,7 @@ pub struct Short {
     pub need: usize,
 }
 
-/// Whether `need` bytes stand at `at`.
+/// Whether `need` bytes are at `at`.
 pub(crate) fn find_room(bytes: &[u8], at: usize, need: usize) -> Result<(), Short>
     ensures { MatchResult result
         (λ _. at + need ≤ length bytes.now)

@@ -18,7 +18,7 @@ pub const EI_NIDENT: usize = 16;
 /// The class of a file with 64-bit objects (gABI "ELF Identification").
 pub const ELFCLASS64: u8 = 2;
 
-/// The byte order in which the lowest byte of a number stands first (gABI "ELF Identification").
+/// The byte order in which the lowest byte of a number is first (gABI "ELF Identification").
 pub const ELFDATA2LSB: u8 = 1;
 
 /// The version of the format (gABI "ELF Identification").
@@ -54,7 +54,7 @@ pub const SHT_RELA: u32 = 4;
 /// The hash table of the dynamic symbols (gABI "Sections").
 pub const SHT_HASH: u32 = 5;
 
-/// What the dynamic linker is told (gABI "Sections").
+/// What the dynamic linker is reported (gABI "Sections").
 pub const SHT_DYNAMIC: u32 = 6;
 
 /// Notes (gABI "Sections").
@@ -126,7 +126,7 @@ pub const STB_GLOBAL: u8 = 1;
 /// Known in all files, and gives way to a global symbol (gABI "Symbol Table").
 pub const STB_WEAK: u8 = 2;
 
-/// No type is told (gABI "Symbol Table").
+/// No type is reported (gABI "Symbol Table").
 pub const STT_NOTYPE: u8 = 0;
 
 /// A data object (gABI "Symbol Table").
@@ -171,13 +171,13 @@ pub const SHN_ABS: u16 = 0xfff1;
 /// A common symbol, whose value is its alignment (gABI "Sections").
 pub const SHN_COMMON: u16 = 0xfff2;
 
-/// The section number stands elsewhere (gABI "Sections").
+/// The section number is elsewhere (gABI "Sections").
 pub const SHN_XINDEX: u16 = 0xffff;
 
 /// A part of the file that is loaded (gABI "Program Header").
 pub const PT_LOAD: u32 = 1;
 
-/// What the dynamic linker is told (gABI "Program Header").
+/// What the dynamic linker is reported (gABI "Program Header").
 pub const PT_DYNAMIC: u32 = 2;
 
 /// The path of the dynamic linker (gABI "Program Header").

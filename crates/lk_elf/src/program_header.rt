@@ -15,7 +15,7 @@ pub struct Phdr {
     pub p_type: u32,
     /// The segment's rights, as `PF_X`.
     pub p_flags: u32,
-    /// Where the segment stands in the file, in bytes.
+    /// Where the segment is in the file, in bytes.
     pub p_offset: u64,
     /// The address in memory.
     pub p_vaddr: u64,
@@ -30,7 +30,7 @@ pub struct Phdr {
 }
 
 impl Phdr {
-    /// Reads a program header from the 56 bytes at `at`, or tells that they are not all there. Takes no
+    /// Reads a program header from the 56 bytes at `at`, or reports that they are not all there. Takes no
     /// memory.
     pub fn read_at(bytes: &[u8], at: usize) -> Result<Phdr, Short>
         ensures { Gives 56 bytes.now at (phdr_at bytes.now at) result }

@@ -11,7 +11,7 @@ use crate::numbers::RELA_SIZE;
 /// A relocation with an addend (gABI "Relocation", Elf64_Rela).
 #[derive(Clone, Copy, PartialEq, Eq, Debug)]
 pub struct Rela {
-    /// Where the relocated field stands.
+    /// Where the relocated field is.
     pub r_offset: u64,
     /// The symbol's number in the high 32 bits, the type in the low 32.
     pub r_info: u64,
@@ -20,7 +20,7 @@ pub struct Rela {
 }
 
 impl Rela {
-    /// Reads a relocation with an addend from the 24 bytes at `at`, or tells that they are not all there. Takes no
+    /// Reads a relocation with an addend from the 24 bytes at `at`, or reports that they are not all there. Takes no
     /// memory.
     pub fn read_at(bytes: &[u8], at: usize) -> Result<Rela, Short>
         ensures { Gives 24 bytes.now at (rela_at bytes.now at) result }

@@ -11,7 +11,7 @@ use crate::numbers::SHDR_SIZE;
 /// A section header (gABI "Sections", Elf64_Shdr).
 #[derive(Clone, Copy, PartialEq, Eq, Debug)]
 pub struct Shdr {
-    /// Where the name stands in the sections' string table, in bytes.
+    /// Where the name is in the sections' string table, in bytes.
     pub sh_name: u32,
     /// What the section holds, as `SHT_PROGBITS`.
     pub sh_type: u32,
@@ -19,7 +19,7 @@ pub struct Shdr {
     pub sh_flags: u64,
     /// The address in memory, or 0.
     pub sh_addr: u64,
-    /// Where the section stands in the file, in bytes.
+    /// Where the section is in the file, in bytes.
     pub sh_offset: u64,
     /// The size in bytes.
     pub sh_size: u64,
@@ -34,7 +34,7 @@ pub struct Shdr {
 }
 
 impl Shdr {
-    /// Reads a section header from the 64 bytes at `at`, or tells that they are not all there. Takes no
+    /// Reads a section header from the 64 bytes at `at`, or reports that they are not all there. Takes no
     /// memory.
     pub fn read_at(bytes: &[u8], at: usize) -> Result<Shdr, Short>
         ensures { Gives 64 bytes.now at (shdr_at bytes.now at) result }

@@ -11,7 +11,7 @@ use crate::numbers::SYM_SIZE;
 /// A symbol (gABI "Symbol Table", Elf64_Sym).
 #[derive(Clone, Copy, PartialEq, Eq, Debug)]
 pub struct Sym {
-    /// Where the name stands in the string table, in bytes, or 0.
+    /// Where the name is in the string table, in bytes, or 0.
     pub st_name: u32,
     /// The binding in the high four bits, the type in the low four.
     pub st_info: u8,
@@ -26,7 +26,7 @@ pub struct Sym {
 }
 
 impl Sym {
-    /// Reads a symbol from the 24 bytes at `at`, or tells that they are not all there. Takes no
+    /// Reads a symbol from the 24 bytes at `at`, or reports that they are not all there. Takes no
     /// memory.
     pub fn read_at(bytes: &[u8], at: usize) -> Result<Sym, Short>
         ensures { Gives 24 bytes.now at (sym_at bytes.now at) result }

@@ -7,13 +7,13 @@ use Rattle.std.proofs.lemmas.Grind.{common_steps}
 use Rattle.lk_model.specs.declared.layouts.Hole.{Hole}
 use Rattle.lk_freelist.specs.FreeBytes.{AreHoles, end_of}
 use Rattle.lk_freelist.specs.TakingBack.{put_among, put_before}
-use Rattle.lk_freelist.proofs.Searching.{stands_at, hole_below}
+use Rattle.lk_freelist.proofs.Searching.{is_placed_at, hole_below}
 use Rattle.lk_freelist.proofs.Splitting.{replaced}
 
--- a hole that an index reads stands there
-pub stands_read : (holes : List Hole) (i : ℕ) (h : Hole) → i < length holes → h ≡ get_or holes i h → drop i holes ≡ h ∷ drop (suc i) holes
-stands_read holes i h within read =
-    stands_at holes i h within
+-- a hole that an index reads is there
+pub is_at_read : (holes : List Hole) (i : ℕ) (h : Hole) → i < length holes → h ≡ get_or holes i h → drop i holes ≡ h ∷ drop (suc i) holes
+is_at_read holes i h within read =
+    is_placed_at holes i h within
     ∙ ap (λ y. y ∷ drop (i + 1) holes) (sym read)
     ∙ ap (λ k. h ∷ drop k holes) (add-one i)
 
@@ -97,7 +97,7 @@ reached_at holes seen start i h same within read below reaches =
 at_reached : {holes : List Hole} {start i : ℕ} {h : Hole} (size : ℕ) → IsReached holes start i h → put_among start size holes ≡ take i holes ++ put_among start size (h ∷ drop (suc i) holes)
 at_reached {holes} {start} {i} {h} size reached =
     among_at start size i holes (omega (arith, reached.within)) reached.below
-    ∙ ap (λ ys. take i holes ++ put_among start size ys) (stands_read holes i h reached.within reached.read)
+    ∙ ap (λ ys. take i holes ++ put_among start size ys) (is_at_read holes i h reached.within reached.read)
 
 ends_at : {holes : List Hole} {start i : ℕ} {h : Hole} → IsReached holes start i h → start ≤ end_of h
 ends_at {holes} {start} {i} {h} reached =
@@ -136,7 +136,7 @@ pub put_apart :
     → insert holes i (record { start = start; length = size }) ≡ put_among start size holes
 put_apart {holes} {start} {i} {h} size reached apart other =
     let ends = ends_at reached in
-    ap (λ ys. take i holes ++ (record { start = start; length = size } ∷ ys)) (stands_read holes i h reached.within reached.read)
+    ap (λ ys. take i holes ++ (record { start = start; length = size } ∷ ys)) (is_at_read holes i h reached.within reached.read)
     ∙ sym (at_reached size reached
     ∙ ap (λ ys. take i holes ++ ys) (among_before start size h (drop (suc i) holes) (omega (arith, ends)) ∙ before_apart start size h (drop (suc i) holes) other))
 
@@ -157,7 +157,7 @@ joined_next holes i hole next within read touch =
     let both : Hole = record { start = hole.start; length = hole.length + next.length } in
     ap (λ k. set (remove holes k) i both) (add-one i)
     ∙ set_removed holes i both (omega arith)
-    ∙ sym (ap (λ ys. take i holes ++ put_before hole.start hole.length ys) (stands_read holes (i + 1) next within read ∙ ap (λ k. next ∷ drop (suc k) holes) (add-one i))
+    ∙ sym (ap (λ ys. take i holes ++ put_before hole.start hole.length ys) (is_at_read holes (i + 1) next within read ∙ ap (λ k. next ∷ drop (suc k) holes) (add-one i))
     ∙ ap (λ ys. take i holes ++ ys) (before_touching hole.start hole.length next (drop (suc (suc i)) holes) touch))
 
 -- in the stead of one, apart from the next
@@ -168,7 +168,7 @@ pub joined_none :
     → hole.start + hole.length ≢ next.start
     → set holes i hole ≡ take i holes ++ put_before hole.start hole.length (drop (i + 1) holes)
 joined_none holes i hole next within read apart =
-    let there = stands_read holes (i + 1) next within read in
+    let there = is_at_read holes (i + 1) next within read in
     replaced holes i hole (omega arith)
     ∙ ap (λ k. take i holes ++ (hole ∷ drop k holes)) (sym (add-one i))
     ∙ ap (λ ys. take i holes ++ (hole ∷ ys)) there

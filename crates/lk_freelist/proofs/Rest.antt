@@ -48,24 +48,24 @@ rest_stays at size from (h ∷ hs) are above =
     ∙ ap (λ ys. h ∷ ys) (rest_stays at size (h.start + h.length + 1) hs are.3 (omega (arith, are.0)))
 
 -- a hole of the list begins at or above the place
-stands_above : (from i : ℕ) (h : Hole) (holes : List Hole) → HolesFrom from holes → drop i holes ≡ h ∷ drop (suc i) holes → from ≤ h.start
-stands_above from i h [] are stands = absurd (omega (arith, length-drop {A = Hole} i [], ap length stands))
-stands_above from zero h (x ∷ xs) are stands =
+is_above : (from i : ℕ) (h : Hole) (holes : List Hole) → HolesFrom from holes → drop i holes ≡ h ∷ drop (suc i) holes → from ≤ h.start
+is_above from i h [] are is_at = absurd (omega (arith, length-drop {A = Hole} i [], ap length is_at))
+is_above from zero h (x ∷ xs) are is_at =
     let here : x ≡ h = cc in
     let same : x.start ≡ h.start = ap (λ (y : Hole). y.start) here in
     omega (arith, are.0, same)
-stands_above from (suc i) h (x ∷ xs) are stands =
-    let later = stands_above (x.start + x.length + 1) i h xs are.3 stands in
+is_above from (suc i) h (x ∷ xs) are is_at =
+    let later = is_above (x.start + x.length + 1) i h xs are.3 is_at in
     omega (arith, are.0, later)
 
 -- and ends below 2^64
-stands_below : (from i : ℕ) (h : Hole) (holes : List Hole) → HolesFrom from holes → drop i holes ≡ h ∷ drop (suc i) holes → h.start + h.length < 2 ^ 64
-stands_below from i h [] are stands = absurd (omega (arith, length-drop {A = Hole} i [], ap length stands))
-stands_below from zero h (x ∷ xs) are stands =
+is_below : (from i : ℕ) (h : Hole) (holes : List Hole) → HolesFrom from holes → drop i holes ≡ h ∷ drop (suc i) holes → h.start + h.length < 2 ^ 64
+is_below from i h [] are is_at = absurd (omega (arith, length-drop {A = Hole} i [], ap length is_at))
+is_below from zero h (x ∷ xs) are is_at =
     let here : x ≡ h = cc in
     let P : Hole → Type 0 = λ y. y.start + y.length < 2 ^ 64 in
     subst P here are.2
-stands_below from (suc i) h (x ∷ xs) are stands = stands_below (x.start + x.length + 1) i h xs are.3 stands
+is_below from (suc i) h (x ∷ xs) are is_at = is_below (x.start + x.length + 1) i h xs are.3 is_at
 
 -- only the hole that has the bytes changes
 pub one_changes :
@@ -76,16 +76,16 @@ pub one_changes :
     → h.start ≤ at
     → at + size ≤ h.start + h.length
     → flat_map (without_one at size) holes ≡ take i holes ++ (without_one at size h ++ drop (suc i) holes)
-one_changes from at size i h [] some are stands above inside = absurd (omega (arith, length-drop {A = Hole} i [], ap length stands))
-one_changes from at size zero h (x ∷ xs) some are stands above inside =
+one_changes from at size i h [] some are is_at above inside = absurd (omega (arith, length-drop {A = Hole} i [], ap length is_at))
+one_changes from at size zero h (x ∷ xs) some are is_at above inside =
     let here : x ≡ h = cc in
     let end : x.start + x.length ≡ h.start + h.length = ap (λ (y : Hole). y.start + y.length) here in
     ap (λ ys. without_one at size x ++ ys) (rest_stays at size (x.start + x.length + 1) xs are.3 (omega (arith, end, inside)))
     ∙ ap (λ y. without_one at size y ++ xs) here
-one_changes from at size (suc i) h (x ∷ xs) some are stands above inside =
-    let start = stands_above (x.start + x.length + 1) i h xs are.3 stands in
+one_changes from at size (suc i) h (x ∷ xs) some are is_at above inside =
+    let start = is_above (x.start + x.length + 1) i h xs are.3 is_at in
     ap (λ ys. ys ++ flat_map (without_one at size) xs) (kept_below at size x are.1 (omega (arith, start)))
-    ∙ ap (λ ys. x ∷ ys) (one_changes (x.start + x.length + 1) at size i h xs some are.3 stands above inside)
+    ∙ ap (λ ys. x ∷ ys) (one_changes (x.start + x.length + 1) at size i h xs some are.3 is_at above inside)
 
 -- a hole put before holes that lie above it
 put_between :
@@ -147,7 +147,7 @@ pub found_below :
     → IsFirstFit holes least size align found
     → found.hole.start + found.hole.length < 2 ^ 64
 found_below holes least size align found are first =
-    stands_below 0 found.index found.hole holes are (rw add-one at first.stands)
+    is_below 0 found.index found.hole holes are (rw add-one at first.is_at)
 
 -- the hole that was found is replaced by what is left of it
 pub found_replaced :
@@ -161,7 +161,7 @@ found_replaced holes least size align found some positive are first =
     let fits = fit_within found.hole least size align found.at positive first.fits in
     append_assoc (take found.index holes) (without_one found.at size found.hole) (drop (found.index + 1) holes)
     ∙ ap (λ k. take found.index holes ++ (without_one found.at size found.hole ++ drop k holes)) (add-one found.index)
-    ∙ sym (one_changes 0 found.at size found.index found.hole holes some are (rw add-one at first.stands) fits.above fits.inside)
+    ∙ sym (one_changes 0 found.at size found.index found.hole holes some are (rw add-one at first.is_at) fits.above fits.inside)
     ∙ sym (taken_from_each holes found.at size some)
 
 -- what is left are holes, whose bytes are the free ones that were not taken

@@ -5,13 +5,13 @@ use Rattle.lk_model.specs.FirstFit.{fit_in, first_fit, or_else}
 use Rattle.lk_model.specs.declared.layouts.Hole.{Hole}
 use Rattle.lk_freelist.specs.FreeBytes.{HolesFrom}
 
--- what an index reads stands there
-pub stands_at : (holes : List Hole) (i : ℕ) (d : Hole) → i < length holes → drop i holes ≡ get_or holes i d ∷ drop (i + 1) holes
-stands_at holes i d within = rw add-one (drop-cons holes i d within)
+-- what an index reads is there
+pub is_placed_at : (holes : List Hole) (i : ℕ) (d : Hole) → i < length holes → drop i holes ≡ get_or holes i d ∷ drop (i + 1) holes
+is_placed_at holes i d within = rw add-one (drop-cons holes i d within)
 
--- what stands at a number is within the list
-pub stands_within : (holes : List Hole) (i : ℕ) (h : Hole) → drop i holes ≡ h ∷ drop (i + 1) holes → i < length holes
-stands_within holes i h stands = omega (arith, length-drop i holes, ap length stands)
+-- what is at a number is within the list
+pub is_within : (holes : List Hole) (i : ℕ) (h : Hole) → drop i holes ≡ h ∷ drop (i + 1) holes → i < length holes
+is_within holes i h is_at = omega (arith, length-drop i holes, ap length is_at)
 
 -- each hole ends below 2^64
 pub hole_below : (holes : List Hole) (at i : ℕ) (d : Hole) → HolesFrom at holes → i < length holes → (get_or holes i d).start + (get_or holes i d).length < 2 ^ 64
@@ -27,7 +27,7 @@ pub found_here :
     → first_fit (drop i holes) least size align ≡ Some at
 unfolding first_fit
 found_here holes least size align i d at within fits =
-    ap (λ hs. first_fit hs least size align) (stands_at holes i d within)
+    ap (λ hs. first_fit hs least size align) (is_placed_at holes i d within)
     ∙ ap (λ o. or_else o (first_fit (drop (i + 1) holes) least size align)) fits
 
 -- it does not
@@ -38,7 +38,7 @@ pub not_here :
     → first_fit (drop (i + 1) holes) least size align ≡ first_fit (drop i holes) least size align
 unfolding first_fit
 not_here holes least size align i d within fits =
-    sym (ap (λ hs. first_fit hs least size align) (stands_at holes i d within)
+    sym (ap (λ hs. first_fit hs least size align) (is_placed_at holes i d within)
     ∙ ap (λ o. or_else o (first_fit (drop (i + 1) holes) least size align)) fits)
 
 -- no hole is left

@@ -4,7 +4,7 @@ use Rattle.std.proofs.Math.ListN.{set}
 use Rattle.std.proofs.lemmas.Bool.Decides.{nat_tests}
 use Rattle.lk_model.specs.Holes.{hole_between, without_one}
 use Rattle.lk_model.specs.declared.layouts.Hole.{Hole}
-use Rattle.lk_freelist.proofs.Searching.{stands_within}
+use Rattle.lk_freelist.proofs.Searching.{is_within}
 
 -- a list with another item at a number
 pub replaced : (xs : List Hole) (i : ℕ) (y : Hole) → i < length xs → set xs i y ≡ take i xs ++ (y ∷ drop (suc i) xs)
@@ -29,7 +29,7 @@ left_of at size hole above inside =
 
 -- the hole at a number of the list has the bytes that are taken
 pub record HasBytes (xs : List Hole) (i : ℕ) (hole : Hole) (at size : ℕ) : Type 0 where
-  pub stands : drop i xs ≡ hole ∷ drop (i + 1) xs
+  pub is_at : drop i xs ≡ hole ∷ drop (i + 1) xs
   pub above : hole.start ≤ at
   pub inside : at + size ≤ hole.start + hole.length
 
@@ -54,7 +54,7 @@ pub left_before :
     → set xs i (record { start = hole.start; length = at - hole.start }) ≡ take i xs ++ without_one at size hole ++ drop (i + 1) xs
 left_before xs i hole at size has before behind =
     let part : Hole = record { start = hole.start; length = at - hole.start } in
-    replaced xs i part (stands_within xs i hole has.stands)
+    replaced xs i part (is_within xs i hole has.is_at)
     ∙ ap (λ k. take i xs ++ (part ∷ drop k xs)) (sym (add-one i))
     ∙ sym (in_parts (part ∷ []) [] has (between_some hole.start at (omega arith)) (between_none (at + size) (hole.start + hole.length) (omega arith)))
 
@@ -67,6 +67,6 @@ pub left_behind :
     → set xs i (record { start = at + size; length = hole.start + hole.length - (at + size) }) ≡ take i xs ++ without_one at size hole ++ drop (i + 1) xs
 left_behind xs i hole at size has before behind =
     let part : Hole = record { start = at + size; length = hole.start + hole.length - (at + size) } in
-    replaced xs i part (stands_within xs i hole has.stands)
+    replaced xs i part (is_within xs i hole has.is_at)
     ∙ ap (λ k. take i xs ++ (part ∷ drop k xs)) (sym (add-one i))
     ∙ sym (in_parts [] (part ∷ []) has (between_none hole.start at (omega arith)) (between_some (at + size) (hole.start + hole.length) (omega arith)))

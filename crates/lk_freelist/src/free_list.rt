@@ -62,7 +62,7 @@ impl FreeList {
     /// Makes room for `more` calls that place or take back.
     ///
     /// # Errors
-    /// Want of memory, which there is not where there is room for so many; nothing changes then.
+    /// Out of memory, which there is not where there is room for so many; nothing changes then.
     pub fn reserve(&mut self, more: usize) -> Result<(), NoMemory>
         ensures room { OnOk result (more ≤ self.new.spare) }
         ensures more { self.old.spare ≤ self.new.spare }

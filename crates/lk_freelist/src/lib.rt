@@ -1,5 +1,5 @@
 //! The free bytes of an output section's room: where a new piece goes, how the bytes of an old one become
-//! free again, and what stands in the holes.
+//! free again, and what is in the holes.
 //!
 //! A room, or its holes, come in; out come the places of pieces, one after another, and the holes that are
 //! left. `FreeList::place` answers lk_model's `first_fit` and leaves lk_model's `without`,
@@ -7,7 +7,7 @@
 //! lk_model's `fill_bytes`. Once `reserve` has made room, none of them takes memory.
 //!
 //! Callers rely on one law: holes are determined by their free bytes (`free_bytes_are_the_models`), so that
-//! what a free list holds after any calls is what lk_model finds anew from the pieces that stand.
+//! what a free list holds after any calls is what lk_model finds anew from the pieces that are.
 #![tactic(auto)]
 
 mod filling;

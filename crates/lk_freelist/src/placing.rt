@@ -2,7 +2,7 @@
 //!
 //! A piece may leave no hole that is too short to be filled, so not every place in a hole will do. In a
 //! hole from 0x104 to 0x120 where the shortest is 16 bytes, a piece of 8 bytes at multiples of 8 can not
-//! stand at 0x108 (4 bytes would be left before it), nor at 0x110 (12), but at 0x118, where it ends with
+//! are at 0x108 (4 bytes would be left before it), nor at 0x110 (12), but at 0x118, where it ends with
 //! the hole.
 //!
 //! Two places are looked at in a hole: the least multiple of the alignment that leaves nothing or enough
@@ -107,7 +107,7 @@ fn can_fill(least: u64, n: u64) -> bool
 
 /// Takes bytes out of a hole, and leaves in its stead the holes before and behind them.
 pub(crate) fn take_out(holes: &mut Vec<Hole>, index: usize, hole: Hole, at: u64, size: u64)
-    requires stands { drop index holes.old.items ≡ hole ∷ drop (index + 1) holes.old.items }
+    requires is_at { drop index holes.old.items ≡ hole ∷ drop (index + 1) holes.old.items }
     requires below { hole.start + hole.length < 2 ^ 64 }
     requires above { hole.start ≤ at }
     requires inside { at + size ≤ hole.start + hole.length }

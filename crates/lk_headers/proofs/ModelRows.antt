@@ -12,7 +12,7 @@ use Rattle.lk_model.specs.Texts.{offset_in, table_of}
 use Rattle.lk_model.specs.declared.layouts.Placement.{Placement}
 use Rattle.lk_model.specs.declared.layouts.SectionRow.{SectionRow}
 use Rattle.lk_headers.specs.Front.{front_bytes, front_header}
-use Rattle.lk_headers.specs.HeaderLaws.{FrontIsTheModels, HeadersStandThere, SectionBytesAreTheModels, SectionsAreTheModels}
+use Rattle.lk_headers.specs.HeaderLaws.{FrontIsTheModels, HeadersAreThere, SectionBytesAreTheModels, SectionsAreTheModels}
 use Rattle.lk_headers.specs.SectionTable.{header_of_part, header_of_row, links_of, names_of, section_table, section_table_bytes, tail_number}
 use Rattle.lk_headers.specs.declared.links.Links.{Links}
 use Rattle.lk_headers.specs.TailRows.{last_end, rows_of_parts}
@@ -33,8 +33,8 @@ names_at : (at : ℕ) (parts : List Part) → map row_name (rows_at at parts) �
 names_at at [] = refl
 names_at at (p ∷ ps) = ap (λ l. p.name ∷ l) (names_at (round_up at 8 + length p.bytes) ps)
 
-pub stand_there : HeadersStandThere
-stand_there place parts = ap (λ n. round_up n 8) (end_at (tail_start place) parts)
+pub are_there : HeadersAreThere
+are_there place parts = ap (λ n. round_up n 8) (end_at (tail_start place) parts)
 
 first_at : (name : List ℕ) (at : ℕ) (parts : List Part) →
     position_or_len (λ (row : SectionRow). bytes_eq row.key.name name) (rows_at at parts) ≡ position_or_len (λ (part : Part). bytes_eq part.name name) parts
@@ -51,7 +51,7 @@ number_at place parts name =
 pub front : FrontIsTheModels
 unfolding front_bytes front_header header_bytes file_header
 front r place parts =
-    rw (stand_there place parts, long_at (tail_start place) parts) refl
+    rw (are_there place parts, long_at (tail_start place) parts) refl
 
 -- the headers of placed parts
 parts_headed : (place : Placement) (parts : List Part) (names : List (List ℕ)) (links : Links) (placed : List PlacedPart) → links.tail_texts ≡ part_number place parts (codes ".strtab")

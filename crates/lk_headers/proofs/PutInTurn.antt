@@ -6,7 +6,7 @@ use Rattle.std.proofs.lemmas.Grind.{common_steps, flat_map-append}
 use Rattle.lk_elf.specs.Records.{phdr_bytes}
 use Rattle.lk_elf.specs.declared.program_header.Phdr.{Phdr}
 use Rattle.lk_model.specs.SectionOrder.{Second}
-use Rattle.lk_model.specs.Segments.{first_load, second_load, third_load, held_end, memory_end, load_header, second_segment_start, segment_rows, stack_header, tls_header, tls_segment, program_headers, table_header}
+use Rattle.lk_model.specs.Segments.{first_load, second_load, third_load, stored_end, memory_end, load_header, second_segment_start, segment_rows, stack_header, tls_header, tls_segment, program_headers, table_header}
 use Rattle.lk_model.specs.declared.layouts.Placement.{Placement}
 use Rattle.lk_model.specs.declared.layouts.SectionRow.{SectionRow}
 use Rattle.lk_model.specs.declared.layouts.TlsSegment.{TlsSegment}
@@ -47,7 +47,7 @@ no_table_put old rows n count many none =
 
 -- the second segment
 second_here : (place : Placement) (rows : List SectionRow) → has_items rows ≡ true
-    → second_load place rows ≡ load_header 5 (second_segment_start place) (held_end rows) (memory_end rows) ∷ []
+    → second_load place rows ≡ load_header 5 (second_segment_start place) (stored_end rows) (memory_end rows) ∷ []
 second_here place [] h = absurd (cc)
 second_here place (r ∷ rs) h = refl
 

@@ -1,4 +1,4 @@
--- The number of program headers: of those that stand once, of those that sections ask for, and of the
+-- The number of program headers: of those that are once, of those that sections ask for, and of the
 -- one that shows the others.
 use Rattle.std.specs.Prelude.{ℕ, ◌+◌, Bool, true, false, count_by, nat_lt, is_some}
 use Rattle.lk_model.specs.Segments.{tls_segment}

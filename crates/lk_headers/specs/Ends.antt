@@ -41,6 +41,6 @@ room_end row = row.addr + row.room
 abbrev pub end_after : Side → ℕ → List SectionRow → ℕ
 end_after side before rows = fold max before (map room_end (filter (counts_for side) rows))
 
--- where the last of these rooms ends that counts, or 0: lk_model's `held_end` and `memory_end`
+-- where the last of these rooms ends that counts, or 0: lk_model's `stored_end` and `memory_end`
 abbrev pub end_on : Side → List SectionRow → ℕ
 end_on side rows = end_after side 0 rows

@@ -11,9 +11,9 @@ use Rattle.lk_headers.specs.Front.{front_bytes}
 use Rattle.lk_headers.specs.SectionTable.{section_table, section_table_bytes}
 use Rattle.lk_headers.specs.TailRows.{headers_at, rows_of_parts}
 
--- the section headers stand where lk_model has them
-abbrev pub HeadersStandThere : Type 0
-HeadersStandThere = (place : Placement) (parts : List Part) → headers_at place (rows_of_parts place parts) ≡ headers_offset place parts
+-- the section headers are where lk_model has them
+abbrev pub HeadersAreThere : Type 0
+HeadersAreThere = (place : Placement) (parts : List Part) → headers_at place (rows_of_parts place parts) ≡ headers_offset place parts
 
 -- the file header and the program headers are lk_model's, for the entry's value and the stack that the
 -- added objects ask for

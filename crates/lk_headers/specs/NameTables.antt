@@ -8,7 +8,7 @@ use Rattle.lk_model.specs.Texts.{table_bytes}
 abbrev pub texts_under : List (Bor (List ℕ) × ℕ) → List (List ℕ)
 texts_under entries = map (λ (e : Bor (List ℕ) × ℕ). e.0.now) entries
 
--- each text's place is the number of bytes before it, where the first stands here
+-- each text's place is the number of bytes before it, where the first is here
 abbrev pub StartsAre : ℕ → List (Bor (List ℕ) × ℕ) → Type 0
 StartsAre at [] = Unit {0}
 StartsAre at (e ∷ es) = (e.1 ≡ at) × StartsAre (at + length e.0.now + 1) es

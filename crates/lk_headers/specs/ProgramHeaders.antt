@@ -4,7 +4,7 @@ use Rattle.lk_elf.specs.Numbers.{ehdr_size, pf_r, pf_x, phdr_size, pt_phdr}
 use Rattle.lk_elf.specs.declared.program_header.Phdr.{Phdr}
 use Rattle.lk_model.specs.FullPlace.{load_base}
 use Rattle.lk_model.specs.SectionOrder.{Second}
-use Rattle.lk_model.specs.Segments.{first_load, held_end, load_header, memory_end, second_load, second_segment_start, segment_rows, stack_header, third_load, tls_header, tls_segment}
+use Rattle.lk_model.specs.Segments.{first_load, stored_end, load_header, memory_end, second_load, second_segment_start, segment_rows, stack_header, third_load, tls_header, tls_segment}
 use Rattle.lk_model.specs.declared.layouts.Placement.{Placement}
 use Rattle.lk_headers.specs.Shown.{shown_headers}
 use Rattle.lk_headers.specs.declared.shown.Shown.TheVariants as shown
@@ -25,7 +25,7 @@ table_phdr count = record {
 -- the header of the second segment, where it has a section
 abbrev pub second_header : Placement → Phdr
 second_header place =
-    load_header (pf_r + pf_x) (second_segment_start place) (held_end (segment_rows Second place)) (memory_end (segment_rows Second place))
+    load_header (pf_r + pf_x) (second_segment_start place) (stored_end (segment_rows Second place)) (memory_end (segment_rows Second place))
 
 -- the headers of the loaded segments
 unfoldable pub loads_of : Placement → List Phdr

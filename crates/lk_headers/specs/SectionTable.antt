@@ -58,7 +58,7 @@ header_of_row names links row = record {
   sh_entsize = entry_size_of row.key;
 }
 
--- the header of a part of the tail, of which the row tells the name, the place and the size
+-- the header of a part of the tail, of which the row reports the name, the place and the size
 unfoldable pub header_of_part : List (List ℕ) → Links → SectionRow → Shdr
 header_of_part names links row = record {
   sh_name = offset_in names row.key.name;

@@ -19,7 +19,7 @@ shown_type shown.Interpreter = pt_interp
 shown_type shown.Dynamic = pt_dynamic
 shown_type shown.Note = pt_note
 
--- the rights that it tells
+-- the rights that it reports
 abbrev pub shown_flags : Shown → ℕ
 shown_flags shown.Interpreter = pf_r
 shown_flags shown.Dynamic = pf_r + pf_w

@@ -16,7 +16,7 @@ abbrev pub last_end : ℕ → List SectionRow → ℕ
 last_end begin [] = begin
 last_end begin (row ∷ rows) = last_end (row.offset + row.size) rows
 
--- where the section headers stand
+-- where the section headers are
 abbrev pub headers_at : Placement → List SectionRow → ℕ
 headers_at place tail = round_up (last_end (tail_start place) tail) 8
 

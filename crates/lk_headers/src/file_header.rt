@@ -1,4 +1,4 @@
-//! The file header (gABI "ELF Header"): where the headers stand, how many there are, where the program
+//! The file header (gABI "ELF Header"): where the headers are, how many there are, where the program
 //! begins.
 
 ghost use Rattle.std.specs.Prelude.{◌≡◌, ◌+◌, ◌<◌, ◌^◌, Bool, length};
@@ -56,7 +56,7 @@ fn tail_end(rows: &[SectionRow], tail: &[SectionRow]) -> u128
     }
 }
 
-/// Where the section headers stand.
+/// Where the section headers are.
 fn headers_at(place: &Placement, tail: &SectionRowList) -> u128
     ensures { result ≡ headers_at place.now tail.now }
 {
@@ -64,7 +64,7 @@ fn headers_at(place: &Placement, tail: &SectionRowList) -> u128
 }
 
 /// The header of an image with these rows and so many program headers.
-#[tactic(auto, using(crate::proofs::FieldBytes::ehdr_told), unfolding(crate::specs::Front::front_header))]
+#[tactic(auto, using(crate::proofs::FieldBytes::ehdr_reported), unfolding(crate::specs::Front::front_header))]
 pub(crate) fn file_header(place: &Placement, tail: &SectionRowList, entry: u64, count: u16) -> Ehdr
     requires { (exec_stack : Bool) → count ≡ length (program_headers place.now exec_stack) }
     ensures { (exec_stack : Bool) → ehdr_bytes result ≡ ehdr_bytes (front_header place.now tail.now entry exec_stack) }

@@ -1,4 +1,4 @@
-//! What stands before the seal of an image.
+//! What is before the seal of an image.
 
 ghost use Rattle.std.specs.Prelude.{◌≡◌, ◌≤◌, ◌++◌, Bool, length, IfOk, OnOk};
 ghost use Rattle.lk_model.specs.Segments.{program_headers};
@@ -14,7 +14,7 @@ use std::alloc::Global;
 
 /// The most program headers of an image: as many have room before the seal.
 const MOST_HEADERS: u64 = 64;
-/// Where the seal stands.
+/// Where the seal is.
 const SEAL_OFFSET: usize = 4088;
 
 /// Puts the file header and the program headers at the end.
@@ -56,7 +56,7 @@ fn front_bytes(
     Ok(Bytes::from_vec(out))
 }
 
-/// What stands before the seal of an image, its first 4,088 bytes (gABI "ELF Header", "Program Header"; the
+/// What is before the seal of an image, its first 4,088 bytes (gABI "ELF Header", "Program Header"; the
 /// seal is this project's own): the file header, the program headers, and zeros.
 ///
 /// `tail` has the parts of the tail in their order, each with its name, its place in the file and its

@@ -1,4 +1,4 @@
-//! The headers of an image: what stands before the seal, and the section headers that end it.
+//! The headers of an image: what is before the seal, and the section headers that end it.
 //!
 //! A placement comes in, with the rows of the tail's parts (name, place, size), the address of the entry
 //! and whether the stack may be executed. Out come the first 4,088 bytes of the image (`headers`: the file

@@ -58,9 +58,9 @@ fn third_segment_start(place: &Placement) -> u128
 }
 
 /// A header of a segment that is loaded, from an address to its ends in the file and in memory.
-#[tactic(auto, using(crate::proofs::FieldBytes::phdr_told))]
-fn load(flags: u32, address: u128, held: u128, end: u128) -> Phdr
-    ensures { phdr_bytes result ≡ phdr_bytes (load_header flags address held end) }
+#[tactic(auto, using(crate::proofs::FieldBytes::phdr_reported))]
+fn load(flags: u32, address: u128, stored: u128, end: u128) -> Phdr
+    ensures { phdr_bytes result ≡ phdr_bytes (load_header flags address stored end) }
 {
     Phdr {
         p_type: PT_LOAD,
@@ -68,7 +68,7 @@ fn load(flags: u32, address: u128, held: u128, end: u128) -> Phdr
         p_offset: low_64(above(address, LOAD_BASE)),
         p_vaddr: low_64(address),
         p_paddr: low_64(address),
-        p_filesz: low_64(above(held, address)),
+        p_filesz: low_64(above(stored, address)),
         p_memsz: low_64(above(end, address)),
         p_align: PAGE,
     }

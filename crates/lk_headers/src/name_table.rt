@@ -61,7 +61,7 @@ impl<'a> NameTable<'a> {
         }
     }
 
-    /// Where a text stands in the table's bytes; the end of the table for one that it does not have.
+    /// Where a text is in the table's bytes; the end of the table for one that it does not have.
     pub(crate) fn offset(&self, text: &[u8]) -> u64
         ensures { result ≡ offset_in self.now text.now }
     {

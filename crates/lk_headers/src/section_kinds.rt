@@ -37,7 +37,7 @@ fn table_type(key: &SectionKey) -> u32
 
 /// The type of an array of functions, and of any other section that the file holds.
 #[tactic(auto, unfolding(crate::specs::SectionKinds::table_types))]
-fn held_type(key: &SectionKey) -> u32
+fn stored_type(key: &SectionKey) -> u32
     ensures { result ≡ type_among typed_keys key.now }
 {
     if is_key(key, b".init_array", Class::W) {
@@ -61,7 +61,7 @@ pub(crate) fn header_type(key: &SectionKey) -> u32
     } else if is_note(key) {
         SHT_NOTE
     } else {
-        held_type(key)
+        stored_type(key)
     }
 }
 

@@ -37,7 +37,7 @@ pub(crate) fn null_header() -> Shdr
 }
 
 /// The header of an output section.
-#[tactic(auto, using(crate::proofs::FieldBytes::shdr_told), unfolding(crate::specs::SectionTable::header_of_row))]
+#[tactic(auto, using(crate::proofs::FieldBytes::shdr_reported), unfolding(crate::specs::SectionTable::header_of_row))]
 fn header_of_row(names: &NameTable, links: &Links, row: &SectionRow) -> Shdr
     ensures { shdr_bytes result ≡ shdr_bytes (header_of_row names.now links.now row.now) }
 {
@@ -56,7 +56,7 @@ fn header_of_row(names: &NameTable, links: &Links, row: &SectionRow) -> Shdr
 }
 
 /// The header of a part of the tail.
-#[tactic(auto, using(crate::proofs::FieldBytes::shdr_told), unfolding(crate::specs::SectionTable::header_of_part))]
+#[tactic(auto, using(crate::proofs::FieldBytes::shdr_reported), unfolding(crate::specs::SectionTable::header_of_part))]
 fn header_of_part(names: &NameTable, links: &Links, row: &SectionRow) -> Shdr
     ensures { shdr_bytes result ≡ shdr_bytes (header_of_part names.now links.now row.now) }
 {

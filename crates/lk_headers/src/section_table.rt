@@ -62,10 +62,10 @@ fn put_table(
 ///
 /// `tail` has the parts of the tail in their order, each with its name, its place in the file and its
 /// size in bytes. A name's place is that of its first use among the names in header order, each of which
-/// stands once after an empty one. A number that is greater than its field is written by its low bytes.
+/// is once after an empty one. A number that is greater than its field is written by its low bytes.
 ///
 /// # Errors
-/// Want of memory.
+/// Out of memory.
 pub fn section_headers(
     alloc: Global,
     placement: &Placement,

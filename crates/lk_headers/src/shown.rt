@@ -15,7 +15,7 @@ use lk_model::layouts::{Class, SectionKey, SectionRow};
 pub(crate) enum Shown {
     /// The path of the dynamic linker.
     Interpreter,
-    /// What the dynamic linker is told.
+    /// What the dynamic linker is reported.
     Dynamic,
     /// Notes.
     Note,

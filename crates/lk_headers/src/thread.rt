@@ -13,7 +13,7 @@ use lk_elf::numbers::{PF_R, PF_W, PF_X, PT_GNU_STACK, PT_TLS};
 use lk_model::layouts::Placement;
 
 /// The header of a thread-local segment at an address, with its bytes in the file and in memory.
-#[tactic(auto, using(crate::proofs::FieldBytes::phdr_told))]
+#[tactic(auto, using(crate::proofs::FieldBytes::phdr_reported))]
 fn header_at(addr: u64, file: u64, memory: u128, align: u64) -> Phdr
     ensures { phdr_bytes result ≡ phdr_bytes (thread_header addr file memory align) }
 {

@@ -128,7 +128,7 @@ pub fn tls_start(place: &Placement) -> u64
 }
 
 /// The address at which the thread-local block of a placement ends, its bytes rounded up to its alignment,
-/// and 0 where no section is thread-local. The thread pointer stands there (psABI x86-64 "Thread-Local
+/// and 0 where no section is thread-local. The thread pointer is there (psABI x86-64 "Thread-Local
 /// Storage"). It is a sum of fields and may be more than one holds.
 pub fn tls_end(place: &Placement) -> u128
     ensures { result ≡ tls_end place.now }

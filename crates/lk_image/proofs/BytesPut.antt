@@ -5,11 +5,11 @@ use Rattle.lk_model.specs.Amounts.{round_up}
 use Rattle.lk_model.specs.Images.{seal, seal_offset, stretch}
 use Rattle.lk_model.specs.LinkedBytes.{patch}
 use Rattle.lk_model.specs.Tail.{Part}
-use Rattle.lk_laid.specs.Written.{written}
-use Rattle.lk_laid.specs.WrittenLaws.{AllEndWithin}
-use Rattle.lk_laid.proofs.WrittenBytes.{written_in_turn}
-use Rattle.lk_lawful.proofs.PiecesLists.{all_back, all_front}
-use Rattle.lk_laid.specs.WrittenLaws.{EndsWithin}
+use Rattle.lk_law_writes.specs.Written.{written}
+use Rattle.lk_law_writes.specs.WrittenLaws.{AllEndWithin}
+use Rattle.lk_law_writes.proofs.WrittenBytes.{written_in_turn}
+use Rattle.lk_law_placement.proofs.PiecesLists.{all_back, all_front}
+use Rattle.lk_law_writes.specs.WrittenLaws.{EndsWithin}
 use Rattle.lk_image.specs.declared.placed_tails.PlacedTail.{PlacedTail}
 use Rattle.lk_image.specs.Writes.{front_writes, part_writes, tail_writes}
 

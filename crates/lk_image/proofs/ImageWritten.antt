@@ -14,16 +14,16 @@ use Rattle.lk_model.specs.Tail.{Part, headers_offset, parts_from, section_header
 use Rattle.lk_model.specs.Views.{Resolved}
 use Rattle.lk_model.specs.declared.layouts.Placement.{Placement}
 use Rattle.lk_headers.specs.Front.{up_to_seal}
-use Rattle.lk_laid.specs.LaidLaws.{AreLaid}
-use Rattle.lk_laid.specs.Layable.{Layable}
-use Rattle.lk_laid.specs.Written.{fill_stretches, piece_stretches, sealed_stretches, tail_stretches, written}
-use Rattle.lk_laid.specs.WrittenLaws.{AllEndWithin, EndsWithin}
-use Rattle.lk_laid.proofs.LinkApart.{headers_short, stretches_are_laid}
-use Rattle.lk_laid.proofs.LinkWritten.{sealed_link_is_written}
-use Rattle.lk_laid.proofs.WrittenBytes.{written_in_turn}
-use Rattle.lk_lawful.proofs.PiecesLists.{all_back}
-use Rattle.lk_resolve.specs.Settling.{Settled}
-use Rattle.lk_values.specs.Worth.{Known}
+use Rattle.lk_law_writes.specs.LaidLaws.{AreLaid}
+use Rattle.lk_law_writes.specs.Layable.{Layable}
+use Rattle.lk_law_writes.specs.Written.{fill_stretches, piece_stretches, sealed_stretches, tail_stretches, written}
+use Rattle.lk_law_writes.specs.WrittenLaws.{AllEndWithin, EndsWithin}
+use Rattle.lk_law_writes.proofs.LinkApart.{headers_short, stretches_are_laid}
+use Rattle.lk_law_writes.proofs.LinkWritten.{sealed_link_is_written}
+use Rattle.lk_law_writes.proofs.WrittenBytes.{written_in_turn}
+use Rattle.lk_law_placement.proofs.PiecesLists.{all_back}
+use Rattle.lk_resolve.specs.Settling.{ResolutionValue}
+use Rattle.lk_symbol_values.specs.SymbolNumbering.{ValueInputs}
 use Rattle.lk_image.specs.declared.placed_tails.PlacedTail.{PlacedTail}
 use Rattle.lk_image.specs.ImageAnswers.{FillAnswers, SectionAnswers}
 use Rattle.lk_image.specs.PlacedLinks.{IsFramed, IsWritable}
@@ -56,8 +56,8 @@ front_short r place parts layable =
     let zeros = length-replicate {A = ℕ} (seal_offset - length bytes) 0 in
     up_to (length bytes) (length (replicate (seal_offset - length bytes) 0)) (length (up_to_seal bytes)) both zeros short
 
-pub image_written : (settled : Settled) (known : Known) (objects : List (Option (List ℕ))) (r : Resolved) (place : Placement) (parts : List Part) (front : List ℕ) (tail : PlacedTail) (old a b new : List ℕ)
-    → IsFramed settled known objects r place parts front
+pub image_written : (resolution : ResolutionValue) (known : ValueInputs) (objects : List (Option (List ℕ))) (r : Resolved) (place : Placement) (parts : List Part) (front : List ℕ) (tail : PlacedTail) (old a b new : List ℕ)
+    → IsFramed resolution known objects r place parts front
     → tail ≡ placed_tail place parts
     → old ≡ replicate (length_with place parts) 0
     → (AllEndWithin (length old) (front_writes front) → a ≡ written old (front_writes front))
@@ -65,7 +65,7 @@ pub image_written : (settled : Settled) (known : Known) (objects : List (Option 
     → b ≡ written (written a (piece_stretches r place)) (fill_stretches place)
     → (AllEndWithin (length b) (tail_writes tail) → new ≡ written b (tail_writes tail))
     → IsLaidOut (stretches_with r place parts) new
-image_written settled known objects r place parts front tail old a b new framed tail_is old_is front_put same b_is tail_put =
+image_written resolution known objects r place parts front tail old a b new framed tail_is old_is front_put same b_is tail_put =
     let n : ℕ = length_with place parts in
     let rows : List Stretch = flat_map (row_stretches r place) (enumerate_from 0 place.sections) in
     let last : List Stretch = stretch (headers_offset place parts) (flat_map shdr_bytes (section_headers place parts)) ∷ [] in
@@ -89,12 +89,12 @@ image_written settled known objects r place parts front tail old a b new framed 
     subst (IsLaidOut (stretches_with r place parts)) (sym new_is) (sealed_link_is_written r place parts framed.layable framed.tables)
 
 -- the sections of an image can be written, and are refused as the image is
-pub writable : (settled : Settled) (known : Known) (objects : List (Option (List ℕ))) (r : Resolved) (place : Placement) (parts : List Part) (front old a : List ℕ)
-    → IsFramed settled known objects r place parts front
+pub writable : (resolution : ResolutionValue) (known : ValueInputs) (objects : List (Option (List ℕ))) (r : Resolved) (place : Placement) (parts : List Part) (front old a : List ℕ)
+    → IsFramed resolution known objects r place parts front
     → old ≡ replicate (length_with place parts) 0
     → length a ≡ length old
-    → IsWritable settled known objects r place parts (length a)
-writable settled known objects r place parts front old a framed zeros same = record {
+    → IsWritable resolution known objects r place parts (length a)
+writable resolution known objects r place parts front old a framed zeros same = record {
   linked = framed.linked;
   whole = same ∙ ap length zeros ∙ length-replicate {A = ℕ} (length_with place parts) 0;
   short = framed.short;

@@ -1,8 +1,8 @@
 pub mod Refusals
 pub mod TailsPlaced
 pub mod RecordsApart
-pub mod FrontTold
+pub mod FrontReported
 pub mod BytesPut
 pub mod SectionsWritten
 pub mod ImageWritten
-pub mod ImageTold
+pub mod ImageReported

@@ -1,10 +1,10 @@
--- The first of several refusals is told.
+-- The first of several refusals is reported.
 use Rattle.std.proofs.Common.{◌≡◌, ap, ◌∙◌}
 use Rattle.std.specs.Prelude.{◌≤◌, ◌<◌, ℕ, ◌^◌, Option, Some, None}
 use Rattle.lk_report.specs.declared.statuses.LimitKind.TheVariants as limit
 use Rattle.lk_report.specs.declared.statuses.Status.{Status}
 use Rattle.lk_report.specs.declared.statuses.Status.TheVariants as status
-use Rattle.lk_passes.proofs.AnswersTold.{above, below}
+use Rattle.lk_inputs.proofs.AnswersReported.{above, below}
 use Rattle.lk_image.specs.ImageAnswers.{IsRefusal, first_of, length_limit}
 
 -- a refusal of one is a refusal of another that is as due

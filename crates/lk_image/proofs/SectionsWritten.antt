@@ -14,13 +14,13 @@ use Rattle.lk_model.specs.Views.{KeptPiece, Resolved}
 use Rattle.lk_model.specs.declared.layouts.PieceRow.{PieceRow}
 use Rattle.lk_model.specs.declared.layouts.Placement.{Placement}
 use Rattle.lk_model.specs.declared.layouts.SectionRow.{SectionRow}
-use Rattle.lk_filled.specs.Filled.{CanBeFilled}
-use Rattle.lk_filled.specs.Filled as filled
-use Rattle.lk_laid.specs.Written.{piece_stretches, placed_stretch, row_fill, stretch_in, written}
-use Rattle.lk_laid.proofs.LinkApart.{sections_end_within}
-use Rattle.lk_linked.specs.Written as linked
-use Rattle.lk_resolve.specs.Settling.{Settled}
-use Rattle.lk_values.specs.Worth.{Known}
+use Rattle.lk_fill.specs.Filled.{CanBeFilled}
+use Rattle.lk_fill.specs.Filled as filled
+use Rattle.lk_law_writes.specs.Written.{piece_stretches, placed_stretch, row_fill, stretch_in, written}
+use Rattle.lk_law_writes.proofs.LinkApart.{sections_end_within}
+use Rattle.lk_relocate.specs.Written as linked
+use Rattle.lk_resolve.specs.Settling.{ResolutionValue}
+use Rattle.lk_symbol_values.specs.SymbolNumbering.{ValueInputs}
 use Rattle.lk_image.specs.ImageAnswers.{SectionAnswers}
 use Rattle.lk_image.specs.PlacedLinks.{IsWritable}
 
@@ -29,7 +29,7 @@ none_refuse : (r : Resolved) (place : Placement) (faults : List Fault) → fault
 none_refuse r place [] is few = (refl, ap fault_status (sym is))
 none_refuse r place (f ∷ fs) is few = absurd (omega (arith, few))
 
--- the stretches of pieces and the fill are lk_laid's
+-- the stretches of pieces and the fill are lk_law_writes's
 fill_same : (place : Placement) (zs : List (ℕ × SectionRow)) → flat_map (filled.row_fill place) zs ≡ flat_map (row_fill place) zs
 fill_same place [] = refl
 fill_same place ((n, row) ∷ zs) = ap (λ (l : List Stretch). row_fill place (n, row) ++ l) (fill_same place zs)
@@ -53,16 +53,16 @@ at_most a n k below same = omega (arith, below, same)
 below_fields : (a n : ℕ) → a ≤ n → n ≤ 2 ^ 29 → a < 2 ^ 32
 below_fields a n below short = omega (arith, below, short)
 
-pub sections_written : (settled : Settled) (known : Known) (objects : List (Option (List ℕ))) (r : Resolved) (place : Placement) (parts : List Part) (old mid new : List ℕ) (faults : List Fault)
-    → IsWritable settled known objects r place parts (length old)
+pub sections_written : (resolution : ResolutionValue) (known : ValueInputs) (objects : List (Option (List ℕ))) (r : Resolved) (place : Placement) (parts : List Part) (old mid new : List ℕ) (faults : List Fault)
+    → IsWritable resolution known objects r place parts (length old)
     → faults ≡ overflow_faults r place
     → (tail_start place ≤ length old → faults ≡ [] → mid ≡ linked.written old (linked.piece_stretches r place))
     → length mid ≡ length old
     → (CanBeFilled place (length mid) → new ≡ filled.written mid (filled.fill_stretches place))
     → length faults ≤ 0
     → SectionAnswers r place old new (Ok tt)
-sections_written settled known objects r place parts old mid new faults can told link long fill few =
-    let none = none_refuse r place faults told few in
+sections_written resolution known objects r place parts old mid new faults can reported link long fill few =
+    let none = none_refuse r place faults reported few in
     let within : tail_start place ≤ length_with place parts = sections_end_within place parts in
     let inside : tail_start place ≤ length old = at_most (tail_start place) (length_with place parts) (length old) within can.whole in
     let can_fill : CanBeFilled place (length mid) = record {

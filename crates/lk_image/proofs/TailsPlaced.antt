@@ -12,7 +12,7 @@ use Rattle.lk_model.specs.declared.layouts.SectionRow.{SectionRow}
 use Rattle.lk_headers.specs.SectionTable.{section_table_bytes}
 use Rattle.lk_headers.specs.TailRows.{rows_of_parts}
 use Rattle.lk_headers.proofs.ModelRows.{section_bytes}
-use Rattle.lk_laid.proofs.TailRises.{length_section_headers}
+use Rattle.lk_law_writes.proofs.TailRises.{length_section_headers}
 use Rattle.lk_image.specs.declared.placed_tails.PlacedTail.{PlacedTail}
 use Rattle.lk_image.specs.Tails.{placed_tail}
 
@@ -41,9 +41,9 @@ pub tail_placed : (place : Placement) (parts : List Part) (start end headers_at 
     → size ≡ headers_at + length headers
     → ◌≡◌ {A = PlacedTail} (record { start = start; parts = parts; rows = rows; headers_at = headers_at; headers = headers; length = size }) (placed_tail place parts)
 tail_placed place parts start end headers_at size rows headers start_is rows_are end_is headers_are at_is size_is =
-    let rows_told : rows ≡ rows_of_parts place parts = rows_are ∙ ap (λ (k : ℕ). map part_row (parts_from k parts)) start_is in
-    let headers_told : headers ≡ flat_map shdr_bytes (section_headers place parts) = headers_are ∙ ap (section_table_bytes place) rows_told ∙ section_bytes place parts in
-    let at_told : headers_at ≡ headers_offset place parts = at_is ∙ ap (λ (k : ℕ). round_up k 8) (end_is ∙ ap (λ (k : ℕ). parts_end k parts) start_is) in
-    let size_told : size ≡ length_with place parts =
-    size_is ∙ (λ i. at_told i + length (headers_told i)) ∙ ap (λ (k : ℕ). headers_offset place parts + k) (length_section_headers place parts) in
-    λ i. record { start = start_is i; parts = parts; rows = rows_told i; headers_at = at_told i; headers = headers_told i; length = size_told i }
+    let rows_reported : rows ≡ rows_of_parts place parts = rows_are ∙ ap (λ (k : ℕ). map part_row (parts_from k parts)) start_is in
+    let headers_reported : headers ≡ flat_map shdr_bytes (section_headers place parts) = headers_are ∙ ap (section_table_bytes place) rows_reported ∙ section_bytes place parts in
+    let at_reported : headers_at ≡ headers_offset place parts = at_is ∙ ap (λ (k : ℕ). round_up k 8) (end_is ∙ ap (λ (k : ℕ). parts_end k parts) start_is) in
+    let size_reported : size ≡ length_with place parts =
+    size_is ∙ (λ i. at_reported i + length (headers_reported i)) ∙ ap (λ (k : ℕ). headers_offset place parts + k) (length_section_headers place parts) in
+    λ i. record { start = start_is i; parts = parts; rows = rows_reported i; headers_at = at_reported i; headers = headers_reported i; length = size_reported i }

@@ -15,7 +15,7 @@ use Rattle.lk_model.specs.declared.layouts.LayoutFault.{LayoutFault}
 use Rattle.lk_model.specs.declared.layouts.LayoutFault.TheVariants as layout
 use Rattle.lk_model.specs.declared.layouts.Placement.{Placement}
 use Rattle.lk_headers.specs.Front.{up_to_seal}
-use Rattle.lk_laid.specs.Written.{fill_stretches, piece_stretches, written}
+use Rattle.lk_law_writes.specs.Written.{fill_stretches, piece_stretches, written}
 
 -- the limit on program headers, and that on the length of an image
 abbrev pub headers_limit : Resolved → Placement → Option Status
@@ -37,13 +37,13 @@ image_limit r place = first_of (headers_limit r place) (length_limit (image_leng
 abbrev pub image_refusal : Resolved → Placement → Option Status
 image_refusal r place = first_of (image_limit r place) (fault_status (overflow_faults r place))
 
--- a status is this refusal, or want of memory
+-- a status is this refusal, or out of memory
 abbrev pub IsRefusal : Option Status → Status → Type 0
 IsRefusal due status.NoMemory = Unit {0}
 IsRefusal due s = due ≡ Some s
 
 -- what is answered of the image of a link: all its stretches laid out where nothing is refused, else the refusal.
--- Want of memory may come at any time.
+-- Out of memory may come at any time.
 abbrev pub ImageAnswers : Resolved → Placement → Result (List ℕ) Status → Type 0
 ImageAnswers r place (Ok image) = (image_refusal r place ≡ None) × IsLaidOut (stretches_of r place) image
 ImageAnswers r place (Err s) = IsRefusal (image_refusal r place) s

@@ -14,19 +14,19 @@ use Rattle.lk_model.specs.declared.layouts.Needs.{Needs}
 use Rattle.lk_model.specs.declared.layouts.Placement.{Placement}
 use Rattle.lk_model.specs.declared.summaries.InputSummary.{InputSummary}
 use Rattle.lk_headers.specs.Front.{up_to_seal}
-use Rattle.lk_laid.specs.Layable.{Layable, NeedsNoTables}
-use Rattle.lk_linked.specs.HeldObjects.{HoldsObject}
-use Rattle.lk_linked.specs.Links.{IsLinked}
-use Rattle.lk_loaded.specs.Loadable.{WithinLimits}
-use Rattle.lk_resolve.specs.Settling.{Settled}
-use Rattle.lk_table_sizes.specs.Given.{IsGiven}
-use Rattle.lk_values.specs.Worth.{Known}
+use Rattle.lk_law_writes.specs.Layable.{Layable, NeedsNoTables}
+use Rattle.lk_relocate.specs.ObjectsOfInputs.{HoldsObject}
+use Rattle.lk_relocate.specs.Links.{IsLinked}
+use Rattle.lk_law_loading.specs.Loadable.{WithinLimits}
+use Rattle.lk_resolve.specs.Settling.{ResolutionValue}
+use Rattle.lk_dyn_sizes.specs.Given.{IsGiven}
+use Rattle.lk_symbol_values.specs.SymbolNumbering.{ValueInputs}
 
 -- a static link without tables at a placement that it may have
-pub record IsPlacedLink (settled : Settled) (summaries : List InputSummary) (objects : List (Option (List ℕ))) (options : OptionRecord) (xs : List Input) (place : Placement) : Type 0 where
-  -- the summaries are those of the inputs, and the added ones of these decide what is settled
+pub record IsPlacedLink (resolution : ResolutionValue) (summaries : List InputSummary) (objects : List (Option (List ℕ))) (options : OptionRecord) (xs : List Input) (place : Placement) : Type 0 where
+  -- the summaries are those of the inputs, and the added ones of these decide what is resolved
   pub needs : Needs
-  pub given : IsGiven settled summaries needs options xs
+  pub given : IsGiven resolution summaries needs options xs
   -- the objects are those of the added inputs
   pub objects_are : AllByRecursion (HoldsObject objects (resolve options xs).inputs) (resolve options xs).added
   -- the placement is lawful, within the limit on memory
@@ -38,14 +38,14 @@ pub record IsPlacedLink (settled : Settled) (summaries : List InputSummary) (obj
   pub tables : NeedsNoTables (resolve options xs)
 
 -- the sections of a link can be written into a file of so many bytes
-pub record IsWritable (settled : Settled) (known : Known) (objects : List (Option (List ℕ))) (r : Resolved) (place : Placement) (parts : List Part) (size : ℕ) : Type 0 where
-  pub linked : IsLinked settled known place objects r
+pub record IsWritable (resolution : ResolutionValue) (known : ValueInputs) (objects : List (Option (List ℕ))) (r : Resolved) (place : Placement) (parts : List Part) (size : ℕ) : Type 0 where
+  pub linked : IsLinked resolution known place objects r
   pub whole : size ≡ length_with place parts
   pub short : length_with place parts ≤ 2 ^ 29
 
 -- and so can its image, with these headers at the front
-pub record IsFramed (settled : Settled) (known : Known) (objects : List (Option (List ℕ))) (r : Resolved) (place : Placement) (parts : List Part) (front : List ℕ) : Type 0 where
-  pub linked : IsLinked settled known place objects r
+pub record IsFramed (resolution : ResolutionValue) (known : ValueInputs) (objects : List (Option (List ℕ))) (r : Resolved) (place : Placement) (parts : List Part) (front : List ℕ) : Type 0 where
+  pub linked : IsLinked resolution known place objects r
   pub layable : Layable r place
   pub tables : NeedsNoTables r
   pub front_is : front ≡ up_to_seal (header_bytes r place parts)

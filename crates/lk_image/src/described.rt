@@ -7,9 +7,9 @@ ghost use Rattle.lk_model.specs.Resolving.{resolve};
 ghost use Rattle.lk_model.specs.Views.{Input, Resolved};
 ghost use Rattle.lk_model.specs.declared.layouts.Placement.{Placement as Place};
 ghost use Rattle.lk_image.specs.Tails.{described_of, recorded_summary};
-ghost use Rattle.lk_passes.specs.Adding.{summary_of};
-ghost use Rattle.lk_passes.specs.Named.{name_of};
-ghost use Rattle.lk_passes.specs.Resolves.{found_in};
+ghost use Rattle.lk_inputs.specs.Adding.{summary_of};
+ghost use Rattle.lk_inputs.specs.Named.{name_of};
+ghost use Rattle.lk_inputs.specs.Resolves.{found_in};
 ghost use Rattle.lk_records.specs.Occurrences.{OccurrencesAreRight};
 ghost use Rattle.lk_resolve.specs.Settling.{IsFound};
 
@@ -18,13 +18,13 @@ use lk_incr::tail;
 use lk_model::layouts::Placement;
 use lk_model::records::{InputRecord, InputRecordList, Records, ReferenceList};
 use lk_model::summaries::{InputSummary, SummaryList};
-use lk_passes::InputName;
+use lk_inputs::InputName;
 use lk_records::link_records;
 use lk_report::{List, NoMemory, OptionRecord};
 use lk_resolve::Resolution;
 use std::alloc::Global;
 
-/// What a link has once its records are made: the summaries of its inputs, where everything stands, and the tail
+/// What a link has once its records are made: the summaries of its inputs, where everything is, and the tail
 /// of its image.
 #[derive(Drop)]
 pub(crate) struct Described {
@@ -75,7 +75,7 @@ fn take_apart(alloc: Global, records: Records) -> Result<Described, NoMemory>
 /// out of them again.
 ///
 /// # Errors
-/// Want of memory.
+/// Out of memory.
 pub(crate) fn describe(
     alloc: Global,
     options: &OptionRecord,

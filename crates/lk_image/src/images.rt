@@ -10,24 +10,24 @@ ghost use Rattle.lk_model.specs.Views.{Input, Resolved};
 ghost use Rattle.lk_image.specs.ImageAnswers.{FillAnswers, ImageAnswers, SectionAnswers, WriteAnswers};
 ghost use Rattle.lk_image.specs.PlacedLinks.{IsFramed, IsPlacedLink, IsWritable};
 ghost use Rattle.lk_image.specs.Tails.{described_of, placed_tail};
-ghost use Rattle.lk_passes.specs.Named.{name_of};
+ghost use Rattle.lk_inputs.specs.Named.{name_of};
 ghost use Rattle.lk_records.specs.Occurrences.{OccurrencesAreRight};
 
 use crate::described::{Described, describe};
 use crate::limits::{check_length, front};
 use crate::placed_tails::PlacedTail;
 use crate::writing::{put_front, put_tail};
-use lk_filled::fill_holes;
-use lk_linked::link_pieces;
+use lk_fill::fill_holes;
+use lk_relocate::link_pieces;
 use lk_model::layouts::Placement;
 use lk_model::records::ReferenceList;
 use lk_model::summaries::SummaryList;
 use lk_obj_read::Object;
-use lk_passes::InputName;
+use lk_inputs::InputName;
 use lk_records::exec_stack;
 use lk_report::{Bytes, NoMemory, OptionRecord, Status};
 use lk_resolve::Resolution;
-use lk_values::Values;
+use lk_symbol_values::Values;
 use std::alloc::Global;
 
 /// Writes the sections of a link: the linked bytes of its pieces, and the fill of the holes between them.

@@ -1,4 +1,4 @@
-//! The image of a link at a placement: from where everything stands to the bytes of the file.
+//! The image of a link at a placement: from where everything is to the bytes of the file.
 //!
 //! What a link holds comes in: its options, what is known of its inputs, what these decide (`Resolution`), their
 //! objects, the references that an image records, and a placement, which may be a full one or that of an update.
@@ -9,7 +9,7 @@
 //! The contract cites lk_model (`ImageAnswers`, specs/ImageAnswers.antt): an image is laid out (`IsLaidOut`) of
 //! `stretches_of` the link at the placement, and a refusal is the first of the last two limits of `placement_limit`
 //! and of `overflow_faults`. Callers rely on one law: zeros with the stretches of a link written into them are its
-//! image (lk_laid), so each pass writes its own and knows nothing of the others.
+//! image (lk_law_writes), so each pass writes its own and knows nothing of the others.
 #![tactic(auto)]
 
 mod classes;

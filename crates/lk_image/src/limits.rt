@@ -1,4 +1,4 @@
-//! The limits that an image tells of: on its program headers and on its length (this project's own).
+//! The limits that an image reports of: on its program headers and on its length (this project's own).
 
 ghost use Rattle.std.specs.Prelude.{◌≡◌, List};
 ghost use Rattle.lk_model.specs.FileHeader.{entry_value, exec_stack_of};
@@ -6,7 +6,7 @@ ghost use Rattle.lk_model.specs.Tail.{Part};
 ghost use Rattle.lk_model.specs.Views.{Resolved};
 ghost use Rattle.lk_headers.specs.TailRows.{rows_of_parts};
 ghost use Rattle.lk_image.specs.ImageAnswers.{FrontAnswers, LengthAnswers, front_status};
-ghost use Rattle.lk_values.specs.Sections.{low_64};
+ghost use Rattle.lk_symbol_values.specs.Sections.{low_64};
 
 use lk_headers::headers;
 use lk_model::layouts::{LayoutFault, Placement, SectionRowList};
@@ -27,10 +27,10 @@ fn front_status(made: Result<Bytes, LayoutFault>) -> Result<Bytes, Status>
     }
 }
 
-/// What stands before the seal: the headers, for a tail with these rows and a program that begins at `entry`.
+/// What is before the seal: the headers, for a tail with these rows and a program that begins at `entry`.
 ///
 /// # Errors
-/// The limit on program headers; want of memory.
+/// The limit on program headers; out of memory.
 pub(crate) fn front(
     alloc: Global,
     placement: &Placement,

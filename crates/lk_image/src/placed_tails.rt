@@ -31,7 +31,7 @@ pub(crate) struct PlacedTail {
 /// The tail of an image with these parts, behind the sections of a placement.
 ///
 /// # Errors
-/// Want of memory, which also answers an image whose length 64 bits do not hold.
+/// Out of memory, which also answers an image whose length 64 bits do not hold.
 #[tactic(auto, using(crate::proofs::TailsPlaced::tail_placed))]
 pub(crate) fn place_tail(
     alloc: Global,

@@ -1,4 +1,4 @@
-//! Where the parts of a tail stand: each at the next multiple of 8 (this project's own).
+//! Where the parts of a tail are: each at the next multiple of 8 (this project's own).
 
 ghost use Rattle.std.specs.Prelude.{◌≡◌, ◌+◌, map, IfOk};
 ghost use Rattle.lk_model.specs.Amounts.{round_up};
@@ -68,7 +68,7 @@ fn part_row(alloc: Global, part: &TailPart, offset: u64) -> Result<SectionRow, N
     })
 }
 
-/// The rows of parts that stand one after another from a place on.
+/// The rows of parts that are one after another from a place on.
 #[tactic(auto, using(crate::proofs::TailsPlaced::rows_more))]
 pub(crate) fn rows_from(alloc: Global, start: u64, parts: &[TailPart]) -> Result<TailRows, NoMemory>
     ensures rows { IfOk result (λ tail. tail.rows ≡ map part_row (parts_from start parts.now)) }

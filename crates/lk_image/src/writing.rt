@@ -4,13 +4,13 @@ ghost use Rattle.std.specs.Prelude.{◌≡◌, ◌+◌, ◌≤◌, length, nat_l
 ghost use Rattle.lk_model.specs.Amounts.{round_up};
 ghost use Rattle.lk_model.specs.LinkedBytes.{patch};
 ghost use Rattle.lk_image.specs.Writes.{front_writes, part_writes, tail_writes};
-ghost use Rattle.lk_laid.specs.Written.{written};
-ghost use Rattle.lk_laid.specs.WrittenLaws.{AllEndWithin};
+ghost use Rattle.lk_law_writes.specs.Written.{written};
+ghost use Rattle.lk_law_writes.specs.WrittenLaws.{AllEndWithin};
 
 use crate::placed_tails::PlacedTail;
 use lk_incr::TailPart;
 
-/// Where the seal stands, which says that a commit ended.
+/// Where the seal is, which says that a commit ended.
 const SEAL_OFFSET: u64 = 4088;
 
 /// Whether so many bytes from a place on lie in a file of `size` bytes.

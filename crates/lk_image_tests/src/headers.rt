@@ -171,7 +171,7 @@ fn is_front(bytes: &[u8], headers: &[u8]) -> bool {
         && bytes.iter().skip(headers.len()).all(|byte| *byte == 0)
 }
 
-/// The bytes before the seal, or the limit, or want of memory.
+/// The bytes before the seal, or the limit, or out of memory.
 fn front(
     alloc: Global,
     place: &Placement,
@@ -281,7 +281,7 @@ fn zeros(addr: u64, room: u64, align: u64) -> Row {
 }
 
 #[test]
-fn the_thread_pointer_stands_at_a_multiple_of_the_alignment(rt: HostRuntime) {
+fn the_thread_pointer_is_at_at_a_multiple_of_the_alignment(rt: HostRuntime) {
     let alone = [data(0x405000, 64, 128)];
     assert_eq!(rt; block(rt.alloc(), &alone), Ok((0x405000, 0x405080)));
     let both = [data(0x405000, 72, 8), zeros(0x405080, 8, 128)];

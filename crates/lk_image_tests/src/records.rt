@@ -442,7 +442,7 @@ fn a_link_of_many_kinds_has_its_records(rt: HostRuntime) -> Result<(), NoMemory>
 }
 
 #[test]
-fn equal_section_names_stand_once(rt: HostRuntime) -> Result<(), NoMemory> {
+fn equal_section_names_are_at_once(rt: HostRuntime) -> Result<(), NoMemory> {
     let place = placed(rt.alloc(), MIXED.sections, MIXED.pieces)?;
     let names = section_names(rt.alloc(), &place)?;
     assert_eq!(rt; names.as_slice(), MIXED_NAMES.as_slice());

@@ -24,4 +24,4 @@ words_spelled off (Some half) (f ∷ fs) =
 
 pub words_put : (off : List ℕ → ℕ) (fs : List Field) (ws : List (List ℕ)) (a b : List ℕ) → ws ≡ words_of off fs → b ≡ a ++ flat_map (λ w. w) ws
     → b ≡ a ++ spelled off fs
-words_put off fs ws a b told put = put ∙ ap (λ l. a ++ flat_map (λ w. w) l) told ∙ ap (λ l. a ++ l) (words_spelled off None fs)
+words_put off fs ws a b reported put = put ∙ ap (λ l. a ++ flat_map (λ w. w) l) reported ∙ ap (λ l. a ++ l) (words_spelled off None fs)

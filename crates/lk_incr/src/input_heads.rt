@@ -70,7 +70,7 @@ fn stamp_flag(stamp: Option<Stamp>) -> u64
     }
 }
 
-/// The length that a stamp tells, in bytes, or 0.
+/// The length that a stamp reports, in bytes, or 0.
 fn stamp_length(stamp: Option<Stamp>) -> u64
     ensures { result ≡ stamp_length stamp }
 {
@@ -80,7 +80,7 @@ fn stamp_length(stamp: Option<Stamp>) -> u64
     }
 }
 
-/// The time that a stamp tells, in nanoseconds as two's complement, or 0.
+/// The time that a stamp reports, in nanoseconds as two's complement, or 0.
 fn stamp_time(stamp: Option<Stamp>) -> u64
     ensures { result ≡ stamp_time stamp }
 {

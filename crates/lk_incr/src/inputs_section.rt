@@ -55,7 +55,7 @@ fn inputs_of_records(
 /// of first use, after the empty one.
 ///
 /// # Errors
-/// Want of memory.
+/// Out of memory.
 #[tactic(auto, unfolding(lk_model::specs::Tail::record_parts))]
 pub fn write_inputs(alloc: Global, records: &Records) -> Result<InputsAndTexts, NoMemory>
     ensures inputs { let fields = inputs_fields records.now in IfOk result (λ made. made.inputs ≡ spelled (offset_in (table_of (texts_of fields))) fields) }

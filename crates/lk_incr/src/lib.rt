@@ -1,12 +1,12 @@
 //! The records of an image: what a link writes so that a later link can update it.
 //!
 //! The records of a link come in (`Records`: its options, all inputs with their pieces, symbols and groups,
-//! and where everything stands). Out come the two record sections that an image has today,
+//! and where everything is). Out come the two record sections that an image has today,
 //! `.gnu_incremental_inputs` and `.gnu_incremental_strtab` (`write_inputs`), the names of the sections
 //! (`section_names`), and the three as the parts of the image's tail in their order (`tail`).
 //!
 //! The contracts cite lk_model's `inputs_fields`, `spelled` and `table_of`: the section is the bytes of its
-//! fields one after another, a text stands in it by its place in the table of texts, and the table has each
+//! fields one after another, a text is in it by its place in the table of texts, and the table has each
 //! text once, in order of first use. They speak of any records: a number that is greater than its field is
 //! written by its low bytes, as the definitions say, so that nothing is asked of the numbers. Callers rely
 //! on the clause of `tail`: for the records of a link the parts are lk_model's `tail_parts`.

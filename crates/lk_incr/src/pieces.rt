@@ -14,7 +14,7 @@ use lk_model::layouts::PieceRow;
 use lk_model::summaries::PieceInfo;
 use lk_report::NoMemory;
 
-/// What stands for the output section of a piece that is not kept.
+/// What is taken for the output section of a piece that is not kept.
 const NO_SECTION: u64 = 0xffff_ffff;
 
 /// A piece of the input with this number, 40 bytes: its section, its output section and address where it

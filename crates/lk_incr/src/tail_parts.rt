@@ -76,7 +76,7 @@ fn names_of<'a>(alloc: Global, placement: &'a Placement) -> Result<TextTable<'a>
 /// once, in header order. The parts of the tail are those of any records.
 ///
 /// # Errors
-/// Want of memory.
+/// Out of memory.
 pub fn section_names(alloc: Global, placement: &Placement) -> Result<Bytes, NoMemory>
     ensures { (records : Records) → IfOk result (λ bytes. bytes ≡ table_bytes (table_of (header_names placement.now (record_parts records)))) }
 {
@@ -97,7 +97,7 @@ fn parts_with(alloc: Global, inputs: Bytes, texts: Bytes, names: Bytes) -> Resul
 /// The parts of an image's tail in their order: the inputs, the texts, the names of the sections.
 ///
 /// # Errors
-/// Want of memory.
+/// Out of memory.
 pub fn tail(alloc: Global, records: &Records) -> Result<Tail, NoMemory>
     ensures any { IfOk result (λ parts. parts ≡ tail_of records.now) }
     ensures of_link { (r : Resolved) → IfOk result (λ parts. records.now ≡ records_of r records.now.placement → parts ≡ tail_parts r records.now.placement) }

@@ -44,7 +44,7 @@ impl<'a> TextTable<'a> {
     }
 
     /// Notes a text, which goes last where the table does not have it yet. A table of 2^64 bytes, which
-    /// no memory holds, is told as want of memory.
+    /// no memory holds, is reported as out of memory.
     pub(crate) fn note(&mut self, text: &'a [u8]) -> Result<(), NoMemory>
         ensures { OnOk result (self.new ≡ with_text self.old text.now) }
     {
@@ -63,7 +63,7 @@ impl<'a> TextTable<'a> {
         }
     }
 
-    /// Where a text stands in the table's bytes; the end of the table for one that it does not have.
+    /// Where a text is in the table's bytes; the end of the table for one that it does not have.
     pub(crate) fn offset(&self, text: &[u8]) -> u64
         ensures { result ≡ offset_in self.now text.now }
     {

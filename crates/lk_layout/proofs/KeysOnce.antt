@@ -1,4 +1,4 @@
--- Keys that stand in a list once: what stands at the place of a key.
+-- Keys that are in a list once: what is at the place of a key.
 use Rattle.std.specs.Prelude.{◌≡◌, refl, ℕ, zero, suc, ◌+◌, Bool, true, false, cond, not, ◌||◌, List, [], ◌∷◌, ◌++◌, fold, length, map, Some, slice_get, slice_set}
 use Rattle.std.specs.List.{AllByRecursion, IsDistinct, list_any, position_or_len}
 use Rattle.std.proofs.Common.{sym, ap, ◌∙◌, arith, get_or}
@@ -7,7 +7,7 @@ use Rattle.std.proofs.lemmas.Map.Keys.{IsDistinct-push}
 use Rattle.lk_model.specs.declared.layouts.SectionKey.{SectionKey}
 use Rattle.lk_model.specs.SectionKeys.{same_key}
 use Rattle.lk_model.specs.SectionOrder.{each_once}
-use Rattle.lk_model.proofs.KeysFound.{same_key_self, same_key_tells}
+use Rattle.lk_model.proofs.KeysFound.{same_key_self, same_key_reports}
 use Rattle.lk_layout.specs.Equal.{same_key_equiv}
 use Rattle.lk_resolve.proofs.ListSets.{any-distinct}
 
@@ -25,7 +25,7 @@ place_here key k keys e = ap (λ b. cond (not b) (1 + place_in keys key) 0) e
 place_later : (key k : SectionKey) (keys : List SectionKey) → same_key key k ≡ false → place_in (k ∷ keys) key ≡ suc (place_in keys key)
 place_later key k keys e = let one : 1 + place_in keys key ≡ suc (place_in keys key) = omega arith in ap (λ b. cond (not b) (1 + place_in keys key) 0) e ∙ one
 
--- a key that is among others stands before what follows them
+-- a key that is among others is before what follows them
 pub place_first : (key : SectionKey) (xs ys : List SectionKey) → is_among key xs ≡ true → place_in (xs ++ ys) key ≡ place_in xs key
 place_first key [] ys any = absurd (cc)
 place_first key (x ∷ xs) ys any = go (same_key key x) refl any (place_first key xs ys)
@@ -77,7 +77,7 @@ at_key f [] key any = absurd (cc)
 at_key {X} f (k ∷ keys) key any = go (same_key key k) refl any (at_key f keys key)
   where
     go : (b : Bool) → same_key key k ≡ b → (b || is_among key keys) ≡ true → (is_among key keys ≡ true → slice_get (map f keys) (place_in keys key) ≡ Some (f key)) → slice_get (map f (k ∷ keys)) (place_in (k ∷ keys) key) ≡ Some (f key)
-    go true e a rest = ap (slice_get (map f (k ∷ keys))) (place_here key k keys e) ∙ ap (λ x. Some (f x)) (sym (same_key_tells key k e))
+    go true e a rest = ap (slice_get (map f (k ∷ keys))) (place_here key k keys e) ∙ ap (λ x. Some (f x)) (sym (same_key_reports key k e))
     go false e a rest = ap (slice_get (map f (k ∷ keys))) (place_later key k keys e) ∙ rest a
 
 -- keys that differ from one
@@ -97,7 +97,7 @@ change_key {X} f g (k ∷ keys) key differ any stays = go (same_key key k) refl 
   where
     go : (b : Bool) → same_key key k ≡ b → (b || is_among key keys) ≡ true → (is_among key keys ≡ true → ((y : SectionKey) → same_key key y ≡ false → f y ≡ g y) → slice_set (map f keys) (place_in keys key) (g key) ≡ map g keys) → slice_set (map f (k ∷ keys)) (place_in (k ∷ keys) key) (g key) ≡ map g (k ∷ keys)
     go true e a rest =
-        let own : g key ≡ g k = ap g (same_key_tells key k e) in
+        let own : g key ≡ g k = ap g (same_key_reports key k e) in
         let others : map f keys ≡ map g keys = others_stay f g key keys stays (others_apart key k keys e differ.0) in
         ap (λ n. slice_set (map f (k ∷ keys)) n (g key)) (place_here key k keys e) ∙ (λ i. own i ∷ others i)
     go false e a rest =

@@ -13,8 +13,8 @@ use Rattle.lk_layout.specs.Sorts.{AtLeast, Rises, IsSortOf}
 use Rattle.lk_layout.specs.declared.ranks.Ranked.{Ranked}
 use Rattle.lk_layout.proofs.ListSteps.{at_item}
 
-eq_tells : (a b : ℕ) → nat_eq a b ≡ true → a ≡ b
-eq_tells a b e = grind (arith, nat_tests)
+eq_reports : (a b : ℕ) → nat_eq a b ≡ true → a ≡ b
+eq_reports a b e = grind (arith, nat_tests)
 
 eq_back : (a b : ℕ) (t : Bool) → nat_eq a b ≡ t → (b == a) ≡ t
 eq_back a b t e = grind (arith, nat_tests)
@@ -25,7 +25,7 @@ not_below a b e = grind (arith, nat_tests, e)
 is_less : (a b : ℕ) → b ≤ a → nat_eq a b ≡ false → nat_lt b a ≡ true
 is_less a b le e = grind (arith, nat_tests, le)
 
--- an item with a rank stands at or above the least
+-- an item with a rank is at or above the least
 any_above : (least rank : ℕ) (rs : List Ranked) → AtLeast rank_in least rs → list_any (has_rank rank) rs ≡ true → least ≤ rank
 any_above least rank [] h any = absurd (cc)
 any_above least rank (r ∷ rs) h any = go (has_rank rank r) refl any (any_above least rank rs h.1)
@@ -34,7 +34,7 @@ any_above least rank (r ∷ rs) h any = go (has_rank rank r) refl any (any_above
     go true e some rest = let first = h.0 in grind (arith, nat_tests, e, first)
     go false e some rest = rest some
 
--- the lane of a number, where one more piece stands before the others
+-- the lane of a number, where one more piece is before the others
 while_here : (cursor rank : ℕ) (x : Ranked) (rest : List Ranked) (b : Bool) → is_below rank x ≡ b → fold ranked_next cursor (take_while (is_below rank) (x ∷ rest)) ≡ cond b (fold ranked_next (ranked_next cursor x) (take_while (is_below rank) rest)) cursor
 while_here cursor rank x rest true e = let one : 1 + prefix_len (is_below rank) rest ≡ suc (prefix_len (is_below rank) rest) = omega arith in rw e (rw one refl)
 while_here cursor rank x rest false e = rw e refl
@@ -45,7 +45,7 @@ opened x rest None cursor rank up = go (nat_eq rank x.rank) (list_any (has_rank 
   where
     go : (b any : Bool) → nat_eq rank x.rank ≡ b → list_any (has_rank rank) rest ≡ any → option_or (cond b (Some cursor) None) (cond any (Some (fold ranked_next (ranked_next cursor x) (take_while (is_below rank) rest))) None) ≡ cond (has_rank rank x || any) (Some (fold ranked_next cursor (take_while (is_below rank) (x ∷ rest)))) None
     go true any e f =
-        rw (eq_back rank x.rank true e) (ap Some (sym (while_here cursor rank x rest false (not_below rank x.rank (eq_tells rank x.rank e)))))
+        rw (eq_back rank x.rank true e) (ap Some (sym (while_here cursor rank x rest false (not_below rank x.rank (eq_reports rank x.rank e)))))
     go false false e f = rw (eq_back rank x.rank false e) refl
     go false true e f =
         rw (eq_back rank x.rank false e) (ap Some (sym (while_here cursor rank x rest true (is_less rank x.rank (any_above x.rank rank rest up.0 f) e))))
@@ -81,9 +81,9 @@ abbrev is_filled : {A : Type 0} → List A → Bool
 is_filled [] = false
 is_filled (x ∷ xs) = true
 
-any_told : {A : Type 0} (p : A → Bool) (xs : List A) → list_any p xs ≡ is_filled (filter p xs)
-any_told p [] = refl
-any_told {A} p (x ∷ xs) = go (p x) (any_told p xs)
+any_reported : {A : Type 0} (p : A → Bool) (xs : List A) → list_any p xs ≡ is_filled (filter p xs)
+any_reported p [] = refl
+any_reported {A} p (x ∷ xs) = go (p x) (any_reported p xs)
   where
     go : (b : Bool) → list_any p xs ≡ is_filled (filter p xs) → (b || list_any p xs) ≡ is_filled (cond b (x ∷ filter p xs) (filter p xs))
     go true rest = refl
@@ -91,7 +91,7 @@ any_told {A} p (x ∷ xs) = go (p x) (any_told p xs)
 
 -- the number of a piece is among the sorted ones
 any_sorted : (ranked sorted : List Ranked) (rank : ℕ) → IsSortOf rank_in ranked sorted → list_any (has_rank rank) ranked ≡ true → list_any (has_rank rank) sorted ≡ true
-any_sorted ranked sorted rank s any = any_told (has_rank rank) sorted ∙ ap is_filled (s.stays rank) ∙ sym (any_told (has_rank rank) ranked) ∙ any
+any_sorted ranked sorted rank s any = any_reported (has_rank rank) sorted ∙ ap is_filled (s.stays rank) ∙ sym (any_reported (has_rank rank) ranked) ∙ any
 
 own_rank : (x : Ranked) → has_rank x.rank x ≡ true
 own_rank x = grind (arith, nat_tests)
@@ -103,7 +103,7 @@ any_at before x rest = list_any-append (has_rank x.rank) before (x ∷ rest) ∙
     go true = refl
     go false = rw (own_rank x) refl
 
--- where the next piece of a number stands
+-- where the next piece of a number is
 abbrev cursor_at : List Ranked → List Ranked → ℕ → ℕ
 cursor_at sorted earlier rank = ranked_end (take_while (is_below rank) sorted ++ filter (has_rank rank) earlier)
 
@@ -124,7 +124,7 @@ lane_with ranked sorted before rest x r s whole = go (nat_eq r x.rank) refl
   where
     go : (b : Bool) → nat_eq r x.rank ≡ b → cond b (Some (ranked_next (unwrap_or (lane_at sorted before x.rank) 0) x)) (lane_at sorted before r) ≡ lane_at sorted (before ++ x ∷ []) r
     go true e =
-        let own : r ≡ x.rank = eq_tells r x.rank e in
+        let own : r ≡ x.rank = eq_reports r x.rank e in
         let any = any_sorted ranked sorted x.rank s (ap (list_any (has_rank x.rank)) whole ∙ any_at before x rest) in
         ap (λ (o : Option ℕ). Some (ranked_next (unwrap_or o 0) x)) (own_lane ranked sorted before rest x s whole)
         ∙ ap Some (sym (moved_on sorted before x))
@@ -149,7 +149,7 @@ pub lanes_go_on : (ranked sorted : List Ranked) (i : ℕ) (d : Ranked) (offsets 
     → ((r : ℕ) → new r ≡ lane_moved (old (get_or ranked i d).rank) (old r) (get_or ranked i d) r)
     → more ≡ offsets ++ at ∷ []
     → LanesGoOn ranked sorted i more new
-lanes_go_on ranked sorted i d offsets more old new at within s lanes told here moved pushed =
+lanes_go_on ranked sorted i d offsets more old new at within s lanes reported here moved pushed =
     let x = get_or ranked i d in
     let before = take i ranked in
     let rest = drop (i + 1) ranked in
@@ -163,9 +163,9 @@ lanes_go_on ranked sorted i d offsets more old new at within s lanes told here m
           ∙ append_assoc offsets (at ∷ []) (lane_offsets sorted (before ++ x ∷ []) rest)
           ∙ ap (λ n. offsets ++ n ∷ lane_offsets sorted (before ++ x ∷ []) rest) place
           ∙ ap (λ (rs : List Ranked). offsets ++ lane_offsets sorted before rs) (sym (at_item ranked i d within))
-          ∙ told;
+          ∙ reported;
     }
 
--- at first each lane is where its first piece stands
+-- at first each lane is where its first piece is
 pub first_lanes : (sorted : List Ranked) (r : ℕ) → first_lane 0 sorted r ≡ lane_at sorted [] r
 first_lanes sorted r = ap (λ (rs : List Ranked). cond (list_any (has_rank r) sorted) (Some (ranked_end rs)) None) (sym (append-nil (take_while (is_below r) sorted)))

@@ -3,7 +3,7 @@ use Rattle.std.specs.Prelude.{◌≡◌, refl, ℕ, zero, suc, ◌+◌, ◌<◌,
 use Rattle.std.proofs.lemmas.List.{append_assoc}
 use Rattle.std.proofs.Common.{sym, ap, ◌∙◌, arith, add-one, drop-cons, get_or}
 
--- what stands at a place, and what stands behind it
+-- what is at a place, and what is behind it
 pub at_item : {A : Type 0} (xs : List A) (i : ℕ) (d : A) → i < length xs → drop i xs ≡ get_or xs i d ∷ drop (i + 1) xs
 at_item xs i d within = rw (add-one) (drop-cons xs i d within)
 
@@ -24,7 +24,7 @@ map_step f xs i x y made more all at so pushed is =
     ∙ ap (λ zs. made ++ map f zs) (sym (at_entry xs i x at))
     ∙ so
 
--- an item that was read at a place stands there
+-- an item that was read at a place is there
 pub read_at : {A : Type 0} (xs : List A) (i : ℕ) (x : A) → i < length xs → x ≡ get_or xs i x → slice_get xs i ≡ Some x
 read_at [] i x within is = absurd (omega arith)
 read_at (y ∷ ys) zero x within is = ap Some (sym is)

@@ -13,11 +13,11 @@ use Rattle.lk_model.specs.FullPlace.{numbered_row, offset_by_kind, offset_in, of
 use Rattle.lk_model.specs.Rooms.{patched_end, patched_offset}
 use Rattle.lk_model.specs.SectionKeys.{is_patched, least_of, same_key}
 use Rattle.lk_model.specs.Views.{KeptPiece}
-use Rattle.lk_model.proofs.KeysFound.{same_key_self, same_key_tells}
+use Rattle.lk_model.proofs.KeysFound.{same_key_self, same_key_reports}
 use Rattle.lk_layout.specs.Grouping.{Group, Groups, group_of, groups_of, keys_of}
-use Rattle.lk_layout.specs.PieceRows.{group_home, home_from, home_in, place_under, row_at, row_in, row_under, rows_by}
+use Rattle.lk_layout.specs.PieceRows.{group_row_place, row_place_after, row_place_in, place_under, row_at, row_in, row_under, rows_by}
 use Rattle.lk_layout.specs.Walked.{Walked, offset_after, offsets_after, walked}
-use Rattle.lk_layout.specs.declared.homes.Home.{Home}
+use Rattle.lk_layout.specs.declared.row_places.RowPlace.{RowPlace}
 use Rattle.lk_layout.proofs.GroupsGrow.{all_placed, number_among, pieces_other, pieces_own}
 use Rattle.lk_layout.proofs.KeysOnce.{at_key, change_key, is_among, once_differ, place_in}
 
@@ -35,11 +35,11 @@ models_offset row all done p = go (is_patched row.key) refl
     go true e = refl
     go false e = refl
 
-own_place : (home : Home) (key : SectionKey) (all done : List KeptPiece) (p : KeptPiece) → place_under home (walked (key, pieces_in key all)) p (offset_after key (pieces_in key all) (pieces_in key done) p) ≡ offset_for key home.room all done p
+own_place : (row_place : RowPlace) (key : SectionKey) (all done : List KeptPiece) (p : KeptPiece) → place_under row_place (walked (key, pieces_in key all)) p (offset_after key (pieces_in key all) (pieces_in key done) p) ≡ offset_for key row_place.room all done p
 unfolding walked
-own_place home key all done p = go (is_patched key) p.terminator
+own_place row_place key all done p = go (is_patched key) p.terminator
   where
-    go : (b t : Bool) → cond (b && t) (home.room - 4) (if b then patched_offset (least_of key) (patched_end (least_of key) (pieces_in key done)) p else offset_in_sequence key (pieces_in key all) (pieces_in key done) p) ≡ (if b then (if t then home.room - 4 else patched_offset (least_of key) (patched_end (least_of key) (pieces_in key done)) p) else offset_in_sequence key (pieces_in key all) (pieces_in key done) p)
+    go : (b t : Bool) → cond (b && t) (row_place.room - 4) (if b then patched_offset (least_of key) (patched_end (least_of key) (pieces_in key done)) p else offset_in_sequence key (pieces_in key all) (pieces_in key done) p) ≡ (if b then (if t then row_place.room - 4 else patched_offset (least_of key) (patched_end (least_of key) (pieces_in key done)) p) else offset_in_sequence key (pieces_in key all) (pieces_in key done) p)
     go true true = refl
     go true false = refl
     go false t = refl
@@ -54,20 +54,20 @@ found_passes {A} p (y ∷ ys) x e = go (p y) refl e (found_passes p ys x)
 
 -- the row of a piece in its section
 placed : (rows : List SectionRow) (all done : List KeptPiece) (p : KeptPiece)
-    → option_and_then (λ (h : Home). Some (row_under h (walked (p.key, pieces_in p.key all)) p (offset_after p.key (pieces_in p.key all) (pieces_in p.key done) p))) (home_in rows p.key) ≡ piece_row rows all done p
+    → option_and_then (λ (h : RowPlace). Some (row_under h (walked (p.key, pieces_in p.key all)) p (offset_after p.key (pieces_in p.key all) (pieces_in p.key done) p))) (row_place_in rows p.key) ≡ piece_row rows all done p
 placed rows all done p = go (numbered_row rows p.key) refl
   where
     go : (o : Option (ℕ × SectionRow)) → numbered_row rows p.key ≡ o
-        → option_and_then (λ (h : Home). Some (row_under h (walked (p.key, pieces_in p.key all)) p (offset_after p.key (pieces_in p.key all) (pieces_in p.key done) p))) (option_map home_from o)
+        → option_and_then (λ (h : RowPlace). Some (row_under h (walked (p.key, pieces_in p.key all)) p (offset_after p.key (pieces_in p.key all) (pieces_in p.key done) p))) (option_map row_place_after o)
         ≡ option_map (λ (entry : ℕ × SectionRow). placed_at p entry.0 entry.1 (offset_in entry.1 all done p)) o
     go None e = refl
     go (Some entry) e =
         let row : SectionRow = entry.1 in
-        let own : row.key ≡ p.key = same_key_tells row.key p.key (found_passes (λ (x : ℕ × SectionRow). same_key x.1.key p.key) (enumerate_from 0 rows) entry e) in
+        let own : row.key ≡ p.key = same_key_reports row.key p.key (found_passes (λ (x : ℕ × SectionRow). same_key x.1.key p.key) (enumerate_from 0 rows) entry e) in
         ap (λ offset. Some (placed_at p entry.0 row offset))
-        (own_place (home_from entry) p.key all done p ∙ ap (λ key. offset_for key row.room all done p) (sym own) ∙ sym (models_offset row all done p))
+        (own_place (row_place_after entry) p.key all done p ∙ ap (λ key. offset_for key row.room all done p) (sym own) ∙ sym (models_offset row all done p))
 
--- ---- what stands where in a section
+-- ---- what is where in a section
 
 nth_here : {A : Type 0} (xs : List A) (x : A) (ys : List A) → slice_get (xs ++ x ∷ ys) (length xs) ≡ Some x
 nth_here [] x ys = refl
@@ -88,23 +88,23 @@ walked_offsets : (g : Group) → (walked g).offsets ≡ offsets_after g.0 g.1 []
 unfolding walked
 walked_offsets g = refl
 
-own_row : (home : Option Home) (done rest : List KeptPiece) (p : KeptPiece) (all : List KeptPiece) → all ≡ done ++ p ∷ rest
-    → row_at home (walked (p.key, pieces_in p.key all)) (pieces_in p.key all) (length (pieces_in p.key done))
-    ≡ option_and_then (λ (h : Home). Some (row_under h (walked (p.key, pieces_in p.key all)) p (offset_after p.key (pieces_in p.key all) (pieces_in p.key done) p))) home
-own_row home done rest p all whole =
+own_row : (row_place : Option RowPlace) (done rest : List KeptPiece) (p : KeptPiece) (all : List KeptPiece) → all ≡ done ++ p ∷ rest
+    → row_at row_place (walked (p.key, pieces_in p.key all)) (pieces_in p.key all) (length (pieces_in p.key done))
+    ≡ option_and_then (λ (h : RowPlace). Some (row_under h (walked (p.key, pieces_in p.key all)) p (offset_after p.key (pieces_in p.key all) (pieces_in p.key done) p))) row_place
+own_row row_place done rest p all whole =
     let own : List KeptPiece = pieces_in p.key all in
     let n : ℕ = length (pieces_in p.key done) in
     let split : own ≡ pieces_in p.key done ++ p ∷ pieces_in p.key rest = ap (pieces_in p.key) whole ∙ own_split done rest p in
     let piece : slice_get own n ≡ Some p = ap (λ (ps : List KeptPiece). slice_get ps n) split ∙ nth_here (pieces_in p.key done) p (pieces_in p.key rest) in
     let offset : slice_get (walked (p.key, own)).offsets n ≡ Some (offset_after p.key own (pieces_in p.key done) p) =
     ap (λ os. slice_get os n) (walked_offsets (p.key, own) ∙ ap (offsets_after p.key own []) split) ∙ nth_offset p.key own [] (pieces_in p.key done) p (pieces_in p.key rest) in
-    go home piece offset
+    go row_place piece offset
   where
-    go : (o : Option Home)
+    go : (o : Option RowPlace)
         → slice_get (pieces_in p.key all) (length (pieces_in p.key done)) ≡ Some p
         → slice_get (walked (p.key, pieces_in p.key all)).offsets (length (pieces_in p.key done)) ≡ Some (offset_after p.key (pieces_in p.key all) (pieces_in p.key done) p)
         → row_at o (walked (p.key, pieces_in p.key all)) (pieces_in p.key all) (length (pieces_in p.key done))
-        ≡ option_and_then (λ (h : Home). Some (row_under h (walked (p.key, pieces_in p.key all)) p (offset_after p.key (pieces_in p.key all) (pieces_in p.key done) p))) o
+        ≡ option_and_then (λ (h : RowPlace). Some (row_under h (walked (p.key, pieces_in p.key all)) p (offset_after p.key (pieces_in p.key all) (pieces_in p.key done) p))) o
     go None piece offset = refl
     go (Some h) piece offset =
         let w : Walked = walked (p.key, pieces_in p.key all) in
@@ -113,7 +113,7 @@ own_row home done rest p all whole =
 
 -- ---- all pieces in turn
 
--- how many pieces of a section stand already
+-- how many pieces of a section are already
 abbrev count_of : List KeptPiece → SectionKey → ℕ
 count_of done key = length (pieces_in key done)
 
@@ -127,7 +127,7 @@ none_counted all (k ∷ keys) = ap (λ ns. 0 ∷ ns) (none_counted all keys)
 -- the row of the piece with a number in a section with a number, among all
 abbrev turn_row : List SectionRow → List KeptPiece → ℕ → ℕ → Option PieceRow
 turn_row rows all number n =
-    row_in (map (group_of all) (keys_of all)) (map walked (map (group_of all) (keys_of all))) (map (group_home rows) (map (group_of all) (keys_of all))) number n
+    row_in (map (group_of all) (keys_of all)) (map walked (map (group_of all) (keys_of all))) (map (group_row_place rows) (map (group_of all) (keys_of all))) number n
 
 -- the row of a piece among all, by the pieces before it
 abbrev model_row : List SectionRow → List KeptPiece → ℕ × KeptPiece → Option PieceRow
@@ -139,14 +139,14 @@ this_row rows all done rest p whole among =
     let n : ℕ = count_of done p.key in
     let groups : List Group = map (group_of all) (keys_of all) in
     let walks : List Walked = map walked groups in
-    let homes : List (Option Home) = map (group_home rows) groups in
+    let row_places : List (Option RowPlace) = map (group_row_place rows) groups in
     let group : slice_get groups j ≡ Some (group_of all p.key) = at_key (group_of all) (keys_of all) p.key among in
     let walk : slice_get walks j ≡ Some (walked (group_of all p.key)) = slice_get-map walked groups j ∙ ap (option_map walked) group in
-    let home : slice_get homes j ≡ Some (home_in rows p.key) = slice_get-map (group_home rows) groups j ∙ ap (option_map (group_home rows)) group in
-    ap (λ (o : Option Group). option_and_then (λ (g : Group). option_and_then (λ (w : Walked). option_and_then (λ (h : Option Home). row_at h w g.1 n) (slice_get homes j)) (slice_get walks j)) o) group
-    ∙ ap (λ (o : Option Walked). option_and_then (λ (w : Walked). option_and_then (λ (h : Option Home). row_at h w (pieces_in p.key all) n) (slice_get homes j)) o) walk
-    ∙ ap (λ (o : Option (Option Home)). option_and_then (λ (h : Option Home). row_at h (walked (group_of all p.key)) (pieces_in p.key all) n) o) home
-    ∙ own_row (home_in rows p.key) done rest p all whole
+    let row_place : slice_get row_places j ≡ Some (row_place_in rows p.key) = slice_get-map (group_row_place rows) groups j ∙ ap (option_map (group_row_place rows)) group in
+    ap (λ (o : Option Group). option_and_then (λ (g : Group). option_and_then (λ (w : Walked). option_and_then (λ (h : Option RowPlace). row_at h w g.1 n) (slice_get row_places j)) (slice_get walks j)) o) group
+    ∙ ap (λ (o : Option Walked). option_and_then (λ (w : Walked). option_and_then (λ (h : Option RowPlace). row_at h w (pieces_in p.key all) n) (slice_get row_places j)) o) walk
+    ∙ ap (λ (o : Option (Option RowPlace)). option_and_then (λ (h : Option RowPlace). row_at h (walked (group_of all p.key)) (pieces_in p.key all) n) o) row_place
+    ∙ own_row (row_place_in rows p.key) done rest p all whole
     ∙ placed rows all done p
 
 this_count : (all done : List KeptPiece) (p : KeptPiece) → is_among p.key (keys_of all) ≡ true → slice_index_or (map (count_of done) (keys_of all)) (place_in (keys_of all) p.key) 0 ≡ count_of done p.key
@@ -180,18 +180,18 @@ in_turn rows all =
     ap (λ ns. rows_by (turn_row rows all) ns (map (number_among (keys_of all)) all)) (none_counted all (keys_of all)) ∙ in_turn_from rows all [] all refl (all_placed all)
 
 -- the rows of pieces in turn, of groups that are those of all pieces
-groups_in_turn : (rows : List SectionRow) (all : List KeptPiece) → let g = groups_of all in rows_by (row_in g.sections (map walked g.sections) (map (group_home rows) g.sections)) (replicate (length g.sections) 0) g.order ≡ piece_rows rows all
+groups_in_turn : (rows : List SectionRow) (all : List KeptPiece) → let g = groups_of all in rows_by (row_in g.sections (map walked g.sections) (map (group_row_place rows) g.sections)) (replicate (length g.sections) 0) g.order ≡ piece_rows rows all
 unfolding groups_of
 groups_in_turn rows all = in_turn rows all
 
-pub placed_in_turn : (rows : List SectionRow) (all : List KeptPiece) (g : Groups) (walks : List Walked) (homes : List (Option Home)) (placed_rows : List PieceRow)
+pub placed_in_turn : (rows : List SectionRow) (all : List KeptPiece) (g : Groups) (walks : List Walked) (row_places : List (Option RowPlace)) (placed_rows : List PieceRow)
     → walks ≡ map walked g.sections
-    → homes ≡ map (group_home rows) g.sections
+    → row_places ≡ map (group_row_place rows) g.sections
     → g ≡ groups_of all
-    → placed_rows ≡ rows_by (row_in g.sections walks homes) (replicate (length g.sections) 0) g.order
+    → placed_rows ≡ rows_by (row_in g.sections walks row_places) (replicate (length g.sections) 0) g.order
     → placed_rows ≡ piece_rows rows all
-placed_in_turn rows all g walks homes placed_rows walk home groups told =
-    told
-    ∙ (λ i. rows_by (row_in g.sections (walk i) (home i)) (replicate (length g.sections) 0) g.order)
-    ∙ ap (λ (h : Groups). rows_by (row_in h.sections (map walked h.sections) (map (group_home rows) h.sections)) (replicate (length h.sections) 0) h.order) groups
+placed_in_turn rows all g walks row_places placed_rows walk row_place groups reported =
+    reported
+    ∙ (λ i. rows_by (row_in g.sections (walk i) (row_place i)) (replicate (length g.sections) 0) g.order)
+    ∙ ap (λ (h : Groups). rows_by (row_in h.sections (map walked h.sections) (map (group_row_place rows) h.sections)) (replicate (length h.sections) 0) h.order) groups
     ∙ groups_in_turn rows all

@@ -8,13 +8,13 @@ use Rattle.std.proofs.lemmas.List.Elements.{filter-append}
 use Rattle.lk_model.specs.Rooms.{array_rank, by_number, put_by_number}
 use Rattle.lk_model.specs.Views.{KeptPiece}
 use Rattle.lk_layout.specs.Sorts.{AtLeast, Rises, has_key, IsSortOf}
-use Rattle.lk_layout.proofs.SortedOnce.{is_other, tells}
+use Rattle.lk_layout.proofs.SortedOnce.{is_other, reports}
 
-le_tells : (a b : ℕ) → nat_le a b ≡ true → a ≤ b
-le_tells a b e = grind (arith, nat_tests)
+le_reports : (a b : ℕ) → nat_le a b ≡ true → a ≤ b
+le_reports a b e = grind (arith, nat_tests)
 
-gt_tells : (a b : ℕ) → nat_le a b ≡ false → b < a
-gt_tells a b e = grind (arith, nat_tests)
+gt_reports : (a b : ℕ) → nat_le a b ≡ false → b < a
+gt_reports a b e = grind (arith, nat_tests)
 
 module _ {A : Type 0} (key : A → ℕ) where
   -- an item is not before another one's key
@@ -55,8 +55,8 @@ module _ {A : Type 0} (key : A → ℕ) where
   rises_put (x ∷ xs) p h = go (goes_before p x) refl (rises_put xs p h.1)
     where
       go : (b : Bool) → goes_before p x ≡ b → Rises key (put_in xs p) → Rises key (cond b (x ∷ put_in xs p) (p ∷ x ∷ xs))
-      go true e rest = (at_least_put (key x) xs p h.0 (le_tells (key x) (key p) e), rest)
-      go false e rest = let low = gt_tells (key x) (key p) e in ((omega (arith, low), weaker (key p) (key x) xs (omega (arith, low)) h.0), h)
+      go true e rest = (at_least_put (key x) xs p h.0 (le_reports (key x) (key p) e), rest)
+      go false e rest = let low = gt_reports (key x) (key p) e in ((omega (arith, low), weaker (key p) (key x) xs (omega (arith, low)) h.0), h)
 
   none_above : (k : ℕ) (xs : List A) → AtLeast key (suc k) xs → filter (has_key key k) xs ≡ []
   none_above k [] h = refl
@@ -64,13 +64,13 @@ module _ {A : Type 0} (key : A → ℕ) where
       let first = h.0 in
       ap (λ b. cond b (x ∷ filter (has_key key k) xs) (filter (has_key key k) xs)) (is_other (key x) k (λ e. omega (arith, first, e))) ∙ none_above k xs h.1
 
-  -- an item before greater ones stands among those of a key as it stands behind them
+  -- an item before greater ones is among those of a key as it is behind them
   before_greater : (k : ℕ) (p : A) (ys : List A) → AtLeast key (suc (key p)) ys → filter (has_key key k) (p ∷ ys) ≡ filter (has_key key k) (ys ++ p ∷ [])
   before_greater k p ys h = go (has_key key k p) refl ∙ sym (filter-append (has_key key k) ys (p ∷ []))
     where
       go : (b : Bool) → has_key key k p ≡ b → cond b (p ∷ filter (has_key key k) ys) (filter (has_key key k) ys) ≡ filter (has_key key k) ys ++ cond b (p ∷ []) []
       go true e =
-          let own = tells (key p) k e in
+          let own = reports (key p) k e in
           let none : filter (has_key key k) ys ≡ [] = none_above k ys (weaker (suc k) (suc (key p)) ys (omega (arith, own)) h) in
           ap (λ zs. p ∷ zs) none ∙ ap (λ zs. zs ++ p ∷ []) (sym none)
       go false e = sym (append-nil (filter (has_key key k) ys))
@@ -81,7 +81,7 @@ module _ {A : Type 0} (key : A → ℕ) where
     where
       go : (b : Bool) → goes_before p x ≡ b → filter (has_key key k) (put_in xs p) ≡ filter (has_key key k) (xs ++ p ∷ []) → filter (has_key key k) (cond b (x ∷ put_in xs p) (p ∷ x ∷ xs)) ≡ filter (has_key key k) (x ∷ xs ++ p ∷ [])
       go true e rest = ap (λ zs. cond (has_key key k x) (x ∷ zs) zs) rest
-      go false e rest = let low = gt_tells (key x) (key p) e in before_greater k p (x ∷ xs) (omega (arith, low), weaker (suc (key p)) (key x) xs (omega (arith, low)) h.0)
+      go false e rest = let low = gt_reports (key x) (key p) e in before_greater k p (x ∷ xs) (omega (arith, low), weaker (suc (key p)) (key x) xs (omega (arith, low)) h.0)
 
   put_sorted : (done sorted : List A) (p : A) → IsSortOf key done sorted → IsSortOf key (done ++ p ∷ []) (put_after sorted p)
   put_sorted done sorted p s = rw (put_is sorted p) (record {

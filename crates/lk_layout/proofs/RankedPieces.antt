@@ -78,14 +78,14 @@ offsets_are all earlier (p ∷ ps) =
     λ i. here i ∷ later i
 
 -- what the sorted pieces tell of an array of functions
-pub record ArrayTold (pieces : List KeptPiece) (ranked sorted : List Ranked) : Type 0 where
+pub record ArrayReported (pieces : List KeptPiece) (ranked sorted : List Ranked) : Type 0 where
   pub offsets : lane_offsets sorted [] ranked ≡ array_offsets pieces [] pieces
   pub end : ranked_end sorted ≡ sequence_end (by_number pieces)
 
-pub array_told : (pieces : List KeptPiece) (ranked sorted : List Ranked) → ranked ≡ map ranked_of pieces → IsSortOf rank_in ranked sorted → ArrayTold pieces ranked sorted
-array_told pieces ranked sorted all s =
-    let told : sorted ≡ map ranked_of (by_number pieces) = sorted_is pieces sorted (subst (λ (rs : List Ranked). IsSortOf rank_in rs sorted) all s) in
+pub array_reported : (pieces : List KeptPiece) (ranked sorted : List Ranked) → ranked ≡ map ranked_of pieces → IsSortOf rank_in ranked sorted → ArrayReported pieces ranked sorted
+array_reported pieces ranked sorted all s =
+    let reported : sorted ≡ map ranked_of (by_number pieces) = sorted_is pieces sorted (subst (λ (rs : List Ranked). IsSortOf rank_in rs sorted) all s) in
     record {
-      offsets = (λ i. lane_offsets (told i) [] (all i)) ∙ offsets_are pieces [] pieces;
-      end = ap ranked_end told ∙ end_is (by_number pieces);
+      offsets = (λ i. lane_offsets (reported i) [] (all i)) ∙ offsets_are pieces [] pieces;
+      end = ap ranked_end reported ∙ end_is (by_number pieces);
     }

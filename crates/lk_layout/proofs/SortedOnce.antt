@@ -12,8 +12,8 @@ is_same a b e = grind (arith, nat_tests, e)
 pub is_other : (a b : ℕ) → (a ≡ b → ⊥) → (a == b) ≡ false
 is_other a b n = grind (arith, nat_tests, n)
 
-pub tells : (a b : ℕ) → (a == b) ≡ true → a ≡ b
-tells a b e = grind (arith, nat_tests)
+pub reports : (a b : ℕ) → (a == b) ≡ true → a ≡ b
+reports a b e = grind (arith, nat_tests)
 
 pub apart : (a b : ℕ) → (a == b) ≡ false → a ≡ b → ⊥
 apart a b e same = grind (arith, nat_tests)
@@ -54,7 +54,7 @@ module _ {A : Type 0} (key : A → ℕ) where
       go : (b : Bool) → has_key key k y ≡ b → (filter (has_key key k) xs ≡ x ∷ rest → key x ≡ k) → key x ≡ k
       go true t later =
           let e' : y ∷ filter (has_key key k) xs ≡ x ∷ rest = sym (ap (λ b. cond b (y ∷ filter (has_key key k) xs) (filter (has_key key k) xs)) t) ∙ e in
-          let same : y ≡ x = cc in ap key (sym same) ∙ tells (key y) k t
+          let same : y ≡ x = cc in ap key (sym same) ∙ reports (key y) k t
       go false t later = later (sym (ap (λ b. cond b (y ∷ filter (has_key key k) xs) (filter (has_key key k) xs)) t) ∙ e)
 
   kept : (xs ys : List A) → IsStableByKey key nat_cmp xs ys → (k : ℕ) → filter (has_key key k) ys ≡ filter (has_key key k) xs
@@ -76,13 +76,13 @@ module _ {A : Type 0} (key : A → ℕ) where
 
   -- ---- and no other list does
 
-  -- an item that is among those of a key stands at or above the least key
+  -- an item that is among those of a key is at or above the least key
   above : (least k : ℕ) (xs : List A) (x : A) (rest : List A) → AtLeast key least xs → filter (has_key key k) xs ≡ x ∷ rest → least ≤ k
   above least k [] x rest h e = absurd (cc)
   above least k (y ∷ xs) x rest h e = go (has_key key k y) refl (λ later. above least k xs x rest h.1 later)
     where
       go : (b : Bool) → has_key key k y ≡ b → (filter (has_key key k) xs ≡ x ∷ rest → least ≤ k) → least ≤ k
-      go true t later = let same = tells (key y) k t in let first = h.0 in omega (arith, same, first)
+      go true t later = let same = reports (key y) k t in let first = h.0 in omega (arith, same, first)
       go false t later = later (sym (ap (λ b. cond b (y ∷ filter (has_key key k) xs) (filter (has_key key k) xs)) t) ∙ e)
 
   here : (x : A) (xs : List A) (k : ℕ) → key x ≡ k → filter (has_key key k) (x ∷ xs) ≡ x ∷ filter (has_key key k) xs
@@ -105,7 +105,7 @@ module _ {A : Type 0} (key : A → ℕ) where
     where
       go : (b : Bool) → has_key key k x ≡ b → filter (has_key key k) xs ≡ filter (has_key key k) ys
       go true t =
-          let own = tells (key x) k t in
+          let own = reports (key x) k t in
           let joined : x ∷ filter (has_key key k) xs ≡ y ∷ filter (has_key key k) ys = sym (here x xs k own) ∙ same k ∙ here y ys k (sym first ∙ own) in
           cc
       go false t = sym (elsewhere x xs k t) ∙ same k ∙ elsewhere y ys k (ap (λ n. n == k) (sym first) ∙ t)

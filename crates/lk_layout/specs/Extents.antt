@@ -1,4 +1,4 @@
--- This project's own: how many bytes the output sections of groups take, and where the sections stand.
+-- This project's own: how many bytes the output sections of groups take, and where the sections are.
 use Rattle.std.specs.Prelude.{ℕ, if◌then◌else◌, List, [], ◌++◌, map, find, Option, Some, None}
 use Rattle.std.specs.Option.{option_map_or}
 use Rattle.lk_model.specs.declared.layouts.SectionKey.{SectionKey}
@@ -17,9 +17,9 @@ extent_from patch key w =
     if w.patched then (record { key = key; size = room; room = room; align = w.align }) else (record { key = key; size = w.end; room = room_of patch w.end; align = w.align })
 
 -- the extent of a section, which is a table of this size or else has walked pieces
-abbrev pub extent_told : ℕ → Option ℕ → SectionKey → Walked → Extent
-extent_told patch (Some size) key w = table_extent patch key size
-extent_told patch None key w = extent_from patch key w
+abbrev pub extent_reported : ℕ → Option ℕ → SectionKey → Walked → Extent
+extent_reported patch (Some size) key w = table_extent patch key size
+extent_reported patch None key w = extent_from patch key w
 
 -- the pieces of a section among groups; none where it has no group
 abbrev pub pieces_under : List Group → SectionKey → List KeptPiece

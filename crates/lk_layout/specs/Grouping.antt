@@ -26,7 +26,7 @@ keys_in groups = map (λ (g : Group). g.0) groups
 abbrev pub with_last : Group → KeptPiece → Group
 with_last g piece = (g.0, g.1 ++ piece ∷ [])
 
--- the groups with one more piece: it goes to the end of its section's, and a section that is new stands last
+-- the groups with one more piece: it goes to the end of its section's, and a section that is new is last
 abbrev pub put_piece : List Group → KeptPiece → List Group
 put_piece [] piece = (piece.key, piece ∷ []) ∷ []
 put_piece (g ∷ gs) piece = cond (same_key piece.key g.0) (with_last g piece ∷ gs) (g ∷ put_piece gs piece)

@@ -1,4 +1,4 @@
--- This project's own: the kept pieces, as what is settled of a link tells them.
+-- This project's own: the kept pieces, as what is resolved of a link reports them.
 use Rattle.std.specs.Prelude.{ℕ, ◌+◌, List, [], ◌∷◌, ◌++◌, map, filter, flat_map, Option, Some, None, slice_get}
 use Rattle.std.specs.List.{cons_option}
 use Rattle.lk_model.specs.declared.summaries.Contribution.{Contribution}
@@ -8,7 +8,7 @@ use Rattle.lk_model.specs.declared.summaries.Winner.{Winner}
 use Rattle.lk_model.specs.KeptPieces.{name_piece, section_piece}
 use Rattle.lk_model.specs.Views.{KeptPiece}
 use Rattle.lk_resolve.specs.declared.section_places.SectionPlace.{SectionPlace}
-use Rattle.lk_resolve.specs.Settling.{Settled, is_place_kept}
+use Rattle.lk_resolve.specs.Settling.{ResolutionValue, is_place_kept}
 use Rattle.lk_symtab.specs.NameRows.{NameRow, row_winner}
 
 -- the pieces of an input whose sections are kept
@@ -45,5 +45,5 @@ abbrev pub piece_at : List ℕ → List NameRow → ℕ → List KeptPiece
 piece_at copies rows name = piece_in copies name (slice_get rows name)
 
 -- all kept pieces
-abbrev pub kept_in : Settled → List InputSummary → List ℕ → List KeptPiece
-kept_in settled summaries copies = sections_in settled.kept summaries settled.added ++ names_in copies 0 settled.rows
+abbrev pub kept_in : ResolutionValue → List InputSummary → List ℕ → List KeptPiece
+kept_in resolution summaries copies = sections_in resolution.kept summaries resolution.added ++ names_in copies 0 resolution.rows

@@ -27,7 +27,7 @@ layout_limit place =
     else if nat_lt most_memory (memory_of place) then Some (record { which = limit.Memory; number = memory_of place })
     else None
 
--- what laying out answers, where this is the placement; want of memory is free
+-- what laying out answers, where this is the placement; out of memory is free
 abbrev pub PlaceGives : Placement → Result Placement LayoutFault → Type 0
 PlaceGives full (Ok place) = (section_count full ≤ most_sections) × (memory_of full ≤ most_memory) × (place ≡ full)
 PlaceGives full (Err (fault.Limit l)) = layout_limit full ≡ Some l

@@ -10,7 +10,7 @@ use Rattle.lk_layout.specs.declared.ranks.Ranked.{Ranked}
 abbrev pub ranked_of : KeptPiece → Ranked
 ranked_of piece = record { rank = array_rank piece; size = piece.size; align = piece.align }
 
--- where it stands, where those before it end at the cursor, and the cursor after it
+-- where it is, where those before it end at the cursor, and the cursor after it
 abbrev pub ranked_offset : ℕ → Ranked → ℕ
 ranked_offset cursor r = round_up cursor r.align
 
@@ -28,8 +28,8 @@ has_rank rank r = r.rank == rank
 abbrev pub is_below : ℕ → Ranked → Bool
 is_below rank r = nat_lt r.rank rank
 
--- where the next piece with a number may stand, where the pieces are `sorted` by their numbers and these
--- earlier ones stand already; `None` where there is no piece with this number
+-- where the next piece with a number may be, where the pieces are `sorted` by their numbers and these
+-- earlier ones are already; `None` where there is no piece with this number
 abbrev pub lane_at : List Ranked → List Ranked → ℕ → Option ℕ
 lane_at sorted earlier rank = cond (list_any (has_rank rank) sorted) (Some (ranked_end (take_while (is_below rank) sorted ++ filter (has_rank rank) earlier))) None
 
@@ -47,7 +47,7 @@ rank_of_name name base =
 abbrev pub rank_in : Ranked → ℕ
 rank_in r = r.rank
 
--- where the first piece with a number stands, where the pieces are sorted by their numbers and those before
+-- where the first piece with a number is, where the pieces are sorted by their numbers and those before
 -- them end at the cursor; `None` where there is no piece with this number
 abbrev pub first_lane : ℕ → List Ranked → ℕ → Option ℕ
 first_lane cursor sorted rank = cond (list_any (has_rank rank) sorted) (Some (fold ranked_next cursor (take_while (is_below rank) sorted))) None

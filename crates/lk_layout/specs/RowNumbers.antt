@@ -4,14 +4,14 @@ use Rattle.std.specs.List.{enumerate_from}
 use Rattle.lk_model.specs.declared.layouts.SectionKey.{SectionKey}
 use Rattle.lk_model.specs.declared.layouts.SectionRow.{SectionRow}
 use Rattle.lk_model.specs.SectionKeys.{same_key}
-use Rattle.lk_layout.specs.declared.homes.Home.{Home}
-use Rattle.lk_layout.specs.PieceRows.{home_from}
+use Rattle.lk_layout.specs.declared.row_places.RowPlace.{RowPlace}
+use Rattle.lk_layout.specs.PieceRows.{row_place_after}
 
 -- what is known of the key `k`, once a home of a key was noted where there was none
-abbrev pub home_noted : Option Home → SectionKey → Home → SectionKey → Option Home
-home_noted (Some h) key home k = Some h
-home_noted None key home k = cond (same_key k key) (Some home) None
+abbrev pub row_place_noted : Option RowPlace → SectionKey → RowPlace → SectionKey → Option RowPlace
+row_place_noted (Some h) key row_place k = Some h
+row_place_noted None key row_place k = cond (same_key k key) (Some row_place) None
 
 -- the home of a key among rows whose numbers go on from a first one
-abbrev pub home_from_row : ℕ → List SectionRow → SectionKey → Option Home
-home_from_row n rows key = option_map home_from (find (λ (entry : ℕ × SectionRow). same_key entry.1.key key) (enumerate_from n rows))
+abbrev pub row_place_from : ℕ → List SectionRow → SectionKey → Option RowPlace
+row_place_from n rows key = option_map row_place_after (find (λ (entry : ℕ × SectionRow). same_key entry.1.key key) (enumerate_from n rows))

@@ -1,4 +1,4 @@
--- This project's own: where the pieces of one output section stand in it, before its room is known.
+-- This project's own: where the pieces of one output section are in it, before its room is known.
 use Rattle.std.specs.Prelude.{ℕ, ◌+◌, Bool, true, if◌then◌else◌, List, [], ◌∷◌, ◌++◌}
 use Rattle.lk_model.specs.declared.layouts.SectionKey.{SectionKey}
 use Rattle.lk_model.specs.FullPlace.{align_of, offset_in_sequence}
@@ -8,7 +8,7 @@ use Rattle.lk_model.specs.Views.{KeptPiece}
 use Rattle.lk_layout.specs.Grouping.{Group}
 
 -- the offsets of a section's pieces in their order, where they end, the section's alignment, and whether its
--- pieces stand anywhere in it
+-- pieces are anywhere in it
 pub record Walked : Type 0 where
   pub offsets : List ℕ
   pub end : ℕ

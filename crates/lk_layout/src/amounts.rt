@@ -1,5 +1,5 @@
 //! Sums, products and multiples of sizes. Sizes of pieces have 64 bits, and their sums may have more, so
-//! these numbers have 128. One that has no room in 128 bits is answered as want of memory: it takes more
+//! these numbers have 128. One that has no room in 128 bits is answered as out of memory: it takes more
 //! pieces than memory holds.
 
 ghost use Rattle.std.specs.Prelude.{◌≡◌, ◌+◌, ◌-◌, ◌*◌, IfOk};

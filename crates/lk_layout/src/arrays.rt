@@ -1,9 +1,9 @@
-//! Arrays of functions: their pieces stand by rising number, those of one number in the order in which they
+//! Arrays of functions: their pieces are by rising number, those of one number in the order in which they
 //! were added (this project's own rule).
 //!
-//! Pieces `.init_array.2`, `.init_array.1`, `.init_array.2` stand as the second, the first, the third. A copy
-//! sorted by number tells where the pieces end, and where the first of each number stands (its lane). Then the
-//! pieces are walked in their own order: each stands at its lane's cursor, and moves it. So n pieces cost
+//! Pieces `.init_array.2`, `.init_array.1`, `.init_array.2` are as the second, the first, the third. A copy
+//! sorted by number reports where the pieces end, and where the first of each number is (its lane). Then the
+//! pieces are walked in their own order: each is at its lane's cursor, and moves it. So n pieces cost
 //! n log n steps.
 
 ghost use Rattle.std.specs.Prelude.{◌≡◌, ℕ, [], nat_eq, unwrap_or, IfOk, OnOk};
@@ -21,7 +21,7 @@ use indexmap::IndexMap;
 use lk_report::NoMemory;
 use std::alloc::Global;
 
-/// Where the next piece of each number stands.
+/// Where the next piece of each number is.
 type Lanes = IndexMap<u32, u128>;
 
 /// The lanes of sorted pieces, each at its first piece, and where the last piece ends.
@@ -79,7 +79,7 @@ fn open_lanes(alloc: Global, sorted: &[Ranked]) -> Result<Opened, NoMemory>
     Ok(Opened { lanes, end })
 }
 
-/// Where a piece stands in its lane, which is moved.
+/// Where a piece is in its lane, which is moved.
 fn lane_step(lanes: &mut Lanes, piece: Ranked) -> Result<u128, NoMemory>
     ensures at { IfOk result (λ at. at ≡ ranked_offset (unwrap_or (get nat_eq lanes.old piece.rank) 0) piece) }
     ensures moved { OnOk result ((r : ℕ) → get nat_eq lanes.new r ≡ lane_moved (get nat_eq lanes.old piece.rank) (get nat_eq lanes.old r) piece r) }
@@ -95,7 +95,7 @@ fn lane_step(lanes: &mut Lanes, piece: Ranked) -> Result<u128, NoMemory>
     Ok(step.at)
 }
 
-/// Pieces in their own order, each where it stands among the sorted ones.
+/// Pieces in their own order, each where it is among the sorted ones.
 fn lane_stretch(alloc: Global, ranked: &[Ranked], sorted: &[Ranked]) -> Result<Stretch, NoMemory>
     requires { IsSortOf rank_in ranked.now sorted.now }
     ensures offsets { IfOk result (λ s. s.offsets.items ≡ lane_offsets sorted.now [] ranked.now) }
@@ -121,7 +121,7 @@ fn sorted_copy(alloc: Global, ranked: &[Ranked]) -> Result<Vec<Ranked>, NoMemory
     Ok(sorted)
 }
 
-/// The pieces of an array of functions, which stand by rising number.
+/// The pieces of an array of functions, which are by rising number.
 pub(crate) fn array_stretch(alloc: Global, pieces: &[Kept<'_>]) -> Result<Stretch, NoMemory>
     ensures offsets { IfOk result (λ s. s.offsets.items ≡ array_offsets pieces.now [] pieces.now) }
     ensures end { IfOk result (λ s. s.end ≡ sequence_end (by_number pieces.now)) }

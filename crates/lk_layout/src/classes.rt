@@ -61,7 +61,7 @@ fn is_written(class: Class) -> bool
     }
 }
 
-/// Whether sections of two classes stand in the same segment.
+/// Whether sections of two classes are in the same segment.
 pub(crate) fn share_segment(a: Class, b: Class) -> bool
     ensures { result ≡ same_segment (segment_of a) (segment_of b) }
 {

@@ -4,15 +4,15 @@ ghost use Rattle.std.specs.Prelude.{◌≡◌, [], IfOk};
 ghost use Rattle.lk_model.specs.FullPlace.{Extent, size_among, table_extent};
 ghost use Rattle.lk_model.specs.Rooms.{patched_room, room_of};
 ghost use Rattle.lk_model.specs.SectionKeys.{least_of, reserved_of};
-ghost use Rattle.lk_layout.specs.Extents.{extent_from, extent_told};
-ghost use Rattle.lk_table_sizes.specs.SizeRows.{as_pairs};
+ghost use Rattle.lk_layout.specs.Extents.{extent_from, extent_reported};
+ghost use Rattle.lk_dyn_sizes.specs.SizeRows.{as_pairs};
 
 use crate::key_kinds::{least_of, reserved_of, same_key};
 use crate::rooms::{patched_room, room_of};
 use crate::walks::Walk;
 use lk_model::layouts::{Class, SectionKey};
 use lk_report::NoMemory;
-use lk_table_sizes::TableSize;
+use lk_dyn_sizes::TableSize;
 use std::marker::Model;
 
 /// A section's size and room in bytes, and its alignment. Contracts see it as an `Extent` of lk_model.
@@ -131,7 +131,7 @@ pub(crate) fn extent_of<'k>(
     key: &'k SectionKey,
     walk: &Walk,
 ) -> Result<WideExtent<'k>, NoMemory>
-    ensures { IfOk result (λ e. e ≡ extent_told patch (size_among (as_pairs tables.now) key.now) key.now walk.now) }
+    ensures { IfOk result (λ e. e ≡ extent_reported patch (size_among (as_pairs tables.now) key.now) key.now walk.now) }
 {
     match size_among(tables, key) {
         Some(size) => table_extent(patch, key, size),

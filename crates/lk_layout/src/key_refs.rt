@@ -12,7 +12,7 @@ use lk_model::layouts::SectionKey;
 use std::hash::{Hash, Hasher};
 use std::marker::Model;
 
-/// A key that stands elsewhere. Contracts see it as that key.
+/// A key that is elsewhere. Contracts see it as that key.
 #[derive(Drop)]
 pub(crate) struct KeyRef<'k> {
     pub(crate) key: &'k SectionKey,

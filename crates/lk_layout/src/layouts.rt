@@ -5,12 +5,12 @@ ghost use Rattle.lk_model.specs.Lawful.{Lawful};
 ghost use Rattle.lk_model.specs.Resolving.{resolve};
 ghost use Rattle.lk_model.specs.SectionOrder.{slots_of, table_sizes};
 ghost use Rattle.lk_model.specs.Views.{Input};
-ghost use Rattle.lk_lawful.specs.SoundInputs.{SoundInputs};
+ghost use Rattle.lk_law_placement.specs.SoundInputs.{SoundInputs};
 ghost use Rattle.lk_layout.specs.Grouping.{groups_of};
 ghost use Rattle.lk_layout.specs.KeptIn.{kept_in};
 ghost use Rattle.lk_layout.specs.Layouts.{LayoutGives};
-ghost use Rattle.lk_table_sizes.specs.Given.{IsGiven};
-ghost use Rattle.lk_table_sizes.specs.SizeRows.{as_pairs};
+ghost use Rattle.lk_dyn_sizes.specs.Given.{IsGiven};
+ghost use Rattle.lk_dyn_sizes.specs.SizeRows.{as_pairs};
 
 use crate::grouping::Grouped;
 use crate::kept::Nameless;
@@ -18,12 +18,12 @@ use crate::kept_pieces::{bss_key, kept_pieces};
 use crate::placing::place_kept;
 use crate::sections::group_keys;
 use crate::slots::slots_of;
-use lk_lawful::full_placement_is_lawful;
+use lk_law_placement::full_placement_is_lawful;
 use lk_model::layouts::{LayoutFault, Needs, Placement};
 use lk_model::summaries::SummaryList;
 use lk_report::{Name, NoMemory, OptionRecord};
 use lk_resolve::Resolution;
-use lk_table_sizes::{TableSizeList, table_sizes};
+use lk_dyn_sizes::{TableSizeList, table_sizes};
 use std::alloc::Global;
 
 /// The tables of a link with their sizes, where its kept pieces go to these output sections.
@@ -74,17 +74,17 @@ fn laid_out(
 
 /// The placement of a link that is made anew: its output sections, the pieces that it keeps, its slots; or the
 /// first limit that it exceeds: more than 60,000 output sections, then more than 2 GiB of memory from the load
-/// base to the greatest end of a loaded room. Both are told with the whole number.
+/// base to the greatest end of a loaded room. Both are reported with the whole number.
 ///
-/// `resolution` is what is settled of the inputs, `inputs` has the summary of each by its number, and `needs`
+/// `resolution` is what is resolved of the inputs, `inputs` has the summary of each by its number, and `needs`
 /// what the references of kept pieces need. The options tell the room for growth, in percent. Addresses,
 /// offsets, sizes and alignments are in bytes.
 ///
 /// A placement of inputs without a fault is lawful, so that it can be updated in place later.
 ///
 /// # Errors
-/// A limit; want of memory. An offset that no field holds is answered so too: the bytes of sections that are
-/// not loaded stand in the inputs, so that no memory holds them.
+/// A limit; out of memory. An offset that no field holds is answered so too: the bytes of sections that are
+/// not loaded are in the inputs, so that no memory holds them.
 pub fn full_layout(
     alloc: Global,
     resolution: &Resolution,

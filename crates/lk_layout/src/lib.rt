@@ -1,14 +1,14 @@
 //! Where a link made anew puts everything: its output sections, the pieces that it keeps, its slots.
 //!
-//! What resolution settled comes in (`Resolution`), with the summaries of the inputs, the needs of their
+//! What resolution resolved comes in (`Resolution`), with the summaries of the inputs, the needs of their
 //! references and the options. Out comes, by `full_layout`, a `Placement`, or the first limit that it exceeds.
 //! The contract cites lk_model's `full_place` of what is resolved of the inputs of a command, wherever the
-//! arguments are given by the same inputs (`LayoutGives` of specs/Layouts.antt over lk_table_sizes' `IsGiven`).
+//! arguments are given by the same inputs (`LayoutGives` of specs/Layouts.antt over lk_dyn_sizes' `IsGiven`).
 //! Callers rely on one law besides: of inputs without a fault the placement is lawful, so that a later link can
 //! patch it in place.
 //!
 //! Kept pieces are grouped by output section, found by hash; each group is walked once, and gives the room and
-//! the offsets of its pieces. Sums are made in 128 bits, so that a limit is told with its whole number, and
+//! the offsets of its pieces. Sums are made in 128 bits, so that a limit is reported with its whole number, and
 //! are put into fields of 64 bits once they are known to fit. So n pieces cost n steps, and n log n where they
 //! are sorted.
 #![tactic(auto)]
@@ -18,7 +18,7 @@ mod arrays;
 mod classes;
 mod extents;
 mod grouping;
-mod homes;
+mod row_places;
 mod kept;
 mod kept_pieces;
 mod kept_sections;

@@ -15,14 +15,14 @@ use lk_model::layouts::Class;
 use lk_report::NoMemory;
 use std::alloc::Global;
 
-/// Where the first section begins; the headers stand below it.
+/// Where the first section begins; the headers are below it.
 const FIRST_ADDRESS: u128 = 0x401000;
 /// A page in bytes.
 const PAGE: u128 = 0x1000;
 
 /// The address of a section, and where the next may begin.
 #[derive(Clone, Copy)]
-struct Place {
+struct AddressStep {
     address: u128,
     next: u128,
 }
@@ -40,7 +40,7 @@ pub(crate) fn thread_align(extents: &[WideExtent<'_>]) -> u64
     align
 }
 
-/// The alignment of a section's address: thread-local data stand at the greatest of both sections'.
+/// The alignment of a section's address: thread-local data are at the greatest of both sections'.
 fn address_align(thread: u64, extent: &WideExtent<'_>) -> u64
     ensures { result ≡ address_align thread extent.now }
 {
@@ -63,7 +63,7 @@ fn begin_from(last: Class, class: Class, at: u128) -> Result<u128, NoMemory>
 }
 
 /// The place of a section that may begin there.
-fn place_of(thread: u64, begin: u128, extent: &WideExtent<'_>) -> Result<Place, NoMemory>
+fn place_of(thread: u64, begin: u128, extent: &WideExtent<'_>) -> Result<AddressStep, NoMemory>
     ensures address { IfOk result (λ p. p.address ≡ round_up begin (address_align thread extent.now)) }
     ensures next { IfOk result (λ p. p.next ≡ next_address begin p.address extent.now) }
 {
@@ -74,7 +74,7 @@ fn place_of(thread: u64, begin: u128, extent: &WideExtent<'_>) -> Result<Place, 
     } else {
         plus(address, extent.room())?
     };
-    Ok(Place { address, next })
+    Ok(AddressStep { address, next })
 }
 
 /// Puts a row at the end.

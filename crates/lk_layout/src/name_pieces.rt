@@ -155,7 +155,7 @@ fn keep_all<'p>(
 }
 
 /// Keeps the common blocks, and the copies of names that are to be copied, in order of names.
-#[tactic(auto, using(crate::proofs::NamesTold::names_once))]
+#[tactic(auto, using(crate::proofs::NamesReported::names_once))]
 pub(crate) fn keep_names<'p>(
     alloc: Global,
     kept: &mut Grouped<'p>,

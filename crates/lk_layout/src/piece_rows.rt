@@ -10,27 +10,27 @@ ghost use Rattle.lk_layout.specs.Walked.{walked};
 
 use crate::amounts::{narrow, plus};
 use crate::grouping::Grouped;
-use crate::homes::{Home, group_homes};
+use crate::row_places::{RowPlace, group_row_places};
 use crate::kept::Kept;
 use crate::walks::Walk;
 use lk_model::layouts::{PieceRow, PieceRowList, SectionRow};
 use lk_report::{List, NoMemory};
 use std::alloc::Global;
 
-/// The row of a piece, whose offset in its section is this where it is no terminator: that stands in the last
-/// four bytes of its room. An address that no field holds is answered as want of memory.
-fn row_under(home: Home, walk: &Walk, piece: &Kept<'_>, offset: u128) -> Result<PieceRow, NoMemory>
-    ensures { IfOk result (λ row. row ≡ row_under home walk.now piece.now offset) }
+/// The row of a piece, whose offset in its section is this where it is no terminator: that is in the last
+/// four bytes of its room. An address that no field holds is answered as out of memory.
+fn row_under(row_place: RowPlace, walk: &Walk, piece: &Kept<'_>, offset: u128) -> Result<PieceRow, NoMemory>
+    ensures { IfOk result (λ row. row ≡ row_under row_place walk.now piece.now offset) }
 {
     let place = if walk.is_patched() && piece.is_terminator() {
-        u128::from(home.room.saturating_sub(4))
+        u128::from(row_place.room.saturating_sub(4))
     } else {
         offset
     };
-    let addr = narrow(plus(u128::from(home.addr), place)?)?;
+    let addr = narrow(plus(u128::from(row_place.addr), place)?)?;
     Ok(PieceRow {
         piece: piece.piece(),
-        section: home.number,
+        section: row_place.number,
         addr,
         size: piece.size(),
         align: piece.align(),
@@ -39,14 +39,14 @@ fn row_under(home: Home, walk: &Walk, piece: &Kept<'_>, offset: u128) -> Result<
 
 /// The row of the piece with a number among those of a section; none where there is none.
 fn row_at(
-    home: Option<Home>,
+    row_place: Option<RowPlace>,
     walk: &Walk,
     pieces: &[Kept<'_>],
     n: usize,
 ) -> Result<Option<PieceRow>, NoMemory>
-    ensures { IfOk result (λ row. row ≡ row_at home walk.now pieces.now n) }
+    ensures { IfOk result (λ row. row ≡ row_at row_place walk.now pieces.now n) }
 {
-    let Some(home) = home else {
+    let Some(row_place) = row_place else {
         return Ok(None);
     };
     let Some(piece) = pieces.get(n) else {
@@ -55,7 +55,7 @@ fn row_at(
     let Some(offset) = walk.offset(n) else {
         return Ok(None);
     };
-    let row = row_under(home, walk, piece, offset)?;
+    let row = row_under(row_place, walk, piece, offset)?;
     Ok(Some(row))
 }
 
@@ -63,11 +63,11 @@ fn row_at(
 fn row_in(
     kept: &Grouped<'_>,
     walks: &[Walk],
-    homes: &[Option<Home>],
+    row_places: &[Option<RowPlace>],
     number: usize,
     n: usize,
 ) -> Result<Option<PieceRow>, NoMemory>
-    ensures { IfOk result (λ row. row ≡ row_in kept.now.sections walks.now homes.now number n) }
+    ensures { IfOk result (λ row. row ≡ row_in kept.now.sections walks.now row_places.now number n) }
 {
     if kept.len() <= number {
         return Ok(None);
@@ -75,15 +75,15 @@ fn row_in(
     let Some(walk) = walks.get(number) else {
         return Ok(None);
     };
-    let Some(home) = homes.get(number) else {
+    let Some(row_place) = row_places.get(number) else {
         return Ok(None);
     };
     let (_, pieces) = kept.group(number);
-    let row = row_at(*home, walk, pieces, n)?;
+    let row = row_at(*row_place, walk, pieces, n)?;
     Ok(row)
 }
 
-/// How many pieces of the group with a number stand already; then one more does.
+/// How many pieces of the group with a number are already; then one more does.
 fn take_next(seen: &mut Vec<usize>, number: usize) -> Result<usize, NoMemory>
     ensures taken { IfOk result (λ n. n ≡ slice_index_or seen.old.items number 0) }
     ensures counted { OnOk result (seen.new.items ≡ slice_set seen.old.items number (slice_index_or seen.old.items number 0 + 1)) }
@@ -109,7 +109,7 @@ fn push_some(rows: &mut PieceRowList, row: Option<PieceRow>) -> Result<(), NoMem
     Ok(())
 }
 
-/// No piece of each of so many groups stands yet.
+/// No piece of each of so many groups is yet.
 fn none_seen(alloc: Global, groups: usize) -> Result<Vec<usize>, NoMemory>
     ensures { IfOk result (λ seen. seen.items ≡ replicate groups 0) }
 {
@@ -124,15 +124,15 @@ fn rows_in_order(
     alloc: Global,
     kept: &Grouped<'_>,
     walks: &[Walk],
-    homes: &[Option<Home>],
+    row_places: &[Option<RowPlace>],
 ) -> Result<PieceRowList, NoMemory>
-    ensures { IfOk result (λ rows. rows ≡ rows_by (row_in kept.now.sections walks.now homes.now) (replicate (length kept.now.sections) 0) kept.now.order) }
+    ensures { IfOk result (λ rows. rows ≡ rows_by (row_in kept.now.sections walks.now row_places.now) (replicate (length kept.now.sections) 0) kept.now.order) }
 {
     let mut seen = none_seen(alloc, kept.len())?;
     let mut rows = List::new(alloc);
     for number in kept.order() {
         let n = take_next(&mut seen, *number)?;
-        let row = row_in(kept, walks, homes, *number, n)?;
+        let row = row_in(kept, walks, row_places, *number, n)?;
         push_some(&mut rows, row)?;
     }
     Ok(rows)
@@ -148,7 +148,7 @@ pub(crate) fn piece_rows(
     requires { walks.now ≡ map walked kept.now.sections }
     ensures { (all : List KeptPiece) → kept.now ≡ groups_of all → IfOk result (λ placed. placed ≡ piece_rows rows.now all) }
 {
-    let homes = group_homes(alloc, rows, kept)?;
-    let placed = rows_in_order(alloc, kept, walks, homes.as_slice())?;
+    let row_places = group_row_places(alloc, rows, kept)?;
+    let placed = rows_in_order(alloc, kept, walks, row_places.as_slice())?;
     Ok(placed)
 }

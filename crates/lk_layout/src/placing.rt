@@ -6,7 +6,7 @@ ghost use Rattle.lk_model.specs.Views.{KeptPiece};
 ghost use Rattle.lk_layout.specs.Extents.{extent_under};
 ghost use Rattle.lk_layout.specs.Grouping.{groups_of};
 ghost use Rattle.lk_layout.specs.Layouts.{PlaceGives, place_in, placement_of};
-ghost use Rattle.lk_table_sizes.specs.SizeRows.{as_pairs};
+ghost use Rattle.lk_dyn_sizes.specs.SizeRows.{as_pairs};
 ghost use Rattle.lk_layout.specs.Walked.{walked};
 
 use crate::grouping::Grouped;
@@ -17,7 +17,7 @@ use crate::walks::Walk;
 use crate::wide_rows::WideRow;
 use lk_model::layouts::{LayoutFault, Placement, SectionKey, SlotTable};
 use lk_report::{LimitFault, LimitKind, NoMemory};
-use lk_table_sizes::TableSize;
+use lk_dyn_sizes::TableSize;
 use std::alloc::Global;
 
 /// So many output sections a link may have.

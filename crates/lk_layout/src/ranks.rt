@@ -52,7 +52,7 @@ fn decimal_of(digits: &[u8]) -> u32
     n
 }
 
-/// What stands from `at` on; nothing past the end.
+/// What is from `at` on; nothing past the end.
 fn rest_from(bytes: &[u8], at: usize) -> &[u8]
     ensures { result.now ≡ drop at bytes.now }
 {

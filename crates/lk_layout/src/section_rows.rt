@@ -74,13 +74,13 @@ fn memory_end(rows: &[WideRow<'_>]) -> Result<u128, NoMemory>
 }
 
 /// The memory that rows take, from the load base to the greatest end of a loaded room; what is greater than a
-/// field holds is told as the greatest that it holds.
+/// field holds is reported as the greatest that it holds.
 pub(crate) fn memory_of(rows: &[WideRow<'_>]) -> Result<u64, NoMemory>
     ensures { IfOk result (λ memory. memory ≡ memory_in rows.now) }
 {
     let memory = above(memory_end(rows)?, LOAD_BASE);
-    let told = memory.min(u128::from(u64::MAX));
-    Ok(told as u64)
+    let reported = memory.min(u128::from(u64::MAX));
+    Ok(reported as u64)
 }
 
 /// The rows in fields of 64 bits.

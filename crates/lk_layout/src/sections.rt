@@ -3,7 +3,7 @@
 ghost use Rattle.std.specs.Prelude.{◌≡◌, map, IfOk};
 ghost use Rattle.lk_layout.specs.Extents.{extent_under, ordered_keys as keys_in_order};
 ghost use Rattle.lk_layout.specs.Grouping.{keys_in};
-ghost use Rattle.lk_table_sizes.specs.SizeRows.{as_pairs};
+ghost use Rattle.lk_dyn_sizes.specs.SizeRows.{as_pairs};
 ghost use Rattle.lk_layout.specs.Walked.{walked};
 
 use crate::extents::{WideExtent, extent_of};
@@ -11,7 +11,7 @@ use crate::grouping::Grouped;
 use crate::walks::{Walk, walk_pieces};
 use lk_model::layouts::{SectionKey, SectionKeyList};
 use lk_report::{List, NoMemory};
-use lk_table_sizes::TableSize;
+use lk_dyn_sizes::TableSize;
 use std::alloc::Global;
 
 /// The walks of all groups, by their numbers.
@@ -57,7 +57,7 @@ pub(crate) fn ordered_keys(
 }
 
 /// How many bytes a section takes, among groups that were walked.
-#[tactic(auto, using(crate::proofs::ExtentsTold::found_extent, crate::proofs::ExtentsTold::missing_extent))]
+#[tactic(auto, using(crate::proofs::ExtentsReported::found_extent, crate::proofs::ExtentsReported::missing_extent))]
 fn extent_at<'k>(
     alloc: Global,
     patch: u32,

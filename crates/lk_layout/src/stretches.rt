@@ -1,4 +1,4 @@
-//! Pieces one behind the other: where each stands in its output section, and where the last ends.
+//! Pieces one behind the other: where each is in its output section, and where the last ends.
 
 ghost use Rattle.std.specs.Prelude.{◌≡◌, ◌++◌, ◌∷◌, [], IfOk, OnOk};
 ghost use Rattle.lk_model.specs.FullPlace.{align_of};
@@ -18,14 +18,14 @@ pub(crate) struct Stretch {
     pub(crate) end: u128,
 }
 
-/// Where a piece stands, and the cursor after it.
+/// Where a piece is, and the cursor after it.
 #[derive(Clone, Copy)]
 pub(crate) struct Step {
     pub(crate) at: u128,
     pub(crate) next: u128,
 }
 
-/// The step of a piece of a patched section: an empty piece stands at the start and moves nothing.
+/// The step of a piece of a patched section: an empty piece is at the start and moves nothing.
 pub(crate) fn patched_step(least: u64, cursor: u128, piece: &Kept<'_>) -> Result<Step, NoMemory>
     ensures at { IfOk result (λ step. step.at ≡ patched_offset least cursor piece.now) }
     ensures next { IfOk result (λ step. step.next ≡ patched_next least cursor piece.now) }

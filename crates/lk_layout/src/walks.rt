@@ -1,4 +1,4 @@
-//! The walk of an output section's pieces: where each stands in it, and where they end.
+//! The walk of an output section's pieces: where each is in it, and where they end.
 
 ghost use Rattle.std.specs.Prelude.{◌≡◌, [], slice_get, IfOk};
 ghost use Rattle.lk_model.specs.SectionKeys.{is_patched as is_patched_key};
@@ -15,7 +15,7 @@ use std::alloc::Global;
 use std::marker::Model;
 
 /// The offsets of a section's pieces in their order and where they end, in bytes, the greatest of their
-/// alignments, and whether they stand anywhere in it.
+/// alignments, and whether they are anywhere in it.
 #[derive(Drop)]
 pub(crate) struct Walk {
     stretch: Stretch,
@@ -53,7 +53,7 @@ impl Walk {
         self.align
     }
 
-    /// Whether the pieces stand anywhere in the section.
+    /// Whether the pieces are anywhere in the section.
     pub(crate) fn is_patched(&self) -> bool
         ensures { result ≡ self.now.patched }
     {
@@ -61,8 +61,8 @@ impl Walk {
     }
 }
 
-/// The pieces of a section, each where it stands.
-#[tactic(auto, using(crate::proofs::OffsetsTold::patched_told, crate::proofs::OffsetsTold::array_told, crate::proofs::OffsetsTold::sequence_told))]
+/// The pieces of a section, each where it is.
+#[tactic(auto, using(crate::proofs::OffsetsReported::patched_reported, crate::proofs::OffsetsReported::array_reported, crate::proofs::OffsetsReported::sequence_reported))]
 fn stretch_of(
     alloc: Global,
     key: &SectionKey,

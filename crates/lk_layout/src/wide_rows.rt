@@ -48,7 +48,7 @@ impl<'k> WideRow<'k> {
         }
     }
 
-    /// The row of a section that is not loaded and stands at an offset in the file.
+    /// The row of a section that is not loaded and is at an offset in the file.
     pub(crate) fn unloaded(offset: u128, extent: &WideExtent<'k>) -> Self
         ensures { result ≡ unloaded_row offset extent.now }
     {
@@ -90,7 +90,7 @@ impl<'k> WideRow<'k> {
         self.room
     }
 
-    /// The row in fields of 64 bits; one that they do not hold is answered as want of memory.
+    /// The row in fields of 64 bits; one that they do not hold is answered as out of memory.
     pub(crate) fn narrowed(&self, alloc: Global) -> Result<SectionRow, NoMemory>
         ensures { IfOk result (λ row. row ≡ self.now) }
     {

@@ -5,13 +5,13 @@ use Rattle.std.specs.declared.io.ErrorKind.TheVariants as kind
 use Rattle.lk_ld.specs.declared.arguments.Arguments.{Arguments}
 use Rattle.lk_ld.specs.declared.arguments.Arguments.TheVariants as arguments
 
--- arguments that the system told come to these words, or to want of memory for their list
+-- arguments that the system reported come to these words, or to out of memory for their list
 abbrev pub AreWords : List (List ℕ) → Arguments → Type 0
 AreWords words (arguments.Words list) = list ≡ words
 AreWords words arguments.NoText = ⊥
 AreWords words arguments.NoMemory = Unit {0}
 
 -- what an answer of the system without arguments comes to
-abbrev pub untold : ErrorKind → Arguments
-untold kind.OutOfMemory = arguments.NoMemory
-untold _ = arguments.NoText
+abbrev pub unknown : ErrorKind → Arguments
+unknown kind.OutOfMemory = arguments.NoMemory
+unknown _ = arguments.NoText

@@ -3,7 +3,7 @@
 ghost use Rattle.std.specs.Prelude.{◌≡◌, IfOk, MatchResult, map, drop, string_bytes};
 ghost use Rattle.std.specs.IoError.{error_kind};
 ghost use Rattle.std.specs.Vec.Iter.{into_iter_items};
-ghost use Rattle.lk_ld.specs.Arguments.{AreWords, untold};
+ghost use Rattle.lk_ld.specs.Arguments.{AreWords, unknown};
 
 use lk_report::{List, Name, NameList, NoMemory};
 use std::alloc::Global;
@@ -22,11 +22,11 @@ pub enum Arguments {
     NoMemory,
 }
 
-/// What the program's arguments are, by what the system told of them.
-pub fn arguments_of(alloc: Global, told: io::Result<Args>) -> Arguments
-    ensures { MatchResult told (λ all. AreWords (map string_bytes (drop 1 (into_iter_items all))) result) (λ error. result ≡ untold (error_kind error)) }
+/// What the program's arguments are, by what the system reported of them.
+pub fn arguments_of(alloc: Global, reported: io::Result<Args>) -> Arguments
+    ensures { MatchResult reported (λ all. AreWords (map string_bytes (drop 1 (into_iter_items all))) result) (λ error. result ≡ unknown (error_kind error)) }
 {
-    match told {
+    match reported {
         Ok(all) => match words_of(alloc, all) {
             Ok(words) => Arguments::Words(words),
             Err(NoMemory) => Arguments::NoMemory,
@@ -37,7 +37,7 @@ pub fn arguments_of(alloc: Global, told: io::Result<Args>) -> Arguments
 
 /// Why the arguments could not be had.
 fn unread(error: io::Error) -> Arguments
-    ensures { result ≡ untold (error_kind error) }
+    ensures { result ≡ unknown (error_kind error) }
 {
     match error.kind() {
         ErrorKind::OutOfMemory => Arguments::NoMemory,

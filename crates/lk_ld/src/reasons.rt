@@ -1,7 +1,7 @@
 //! What the system said where a read or the device failed.
 
 ghost use Rattle.std.specs.Prelude.{◌≡◌, option_map};
-ghost use Rattle.lk_ld.specs.Reasons.{IsTextOf, told_of, reason_in};
+ghost use Rattle.lk_ld.specs.Reasons.{IsTextOf, reported_of, reason_in};
 
 use lk_report::{Name, Status};
 use std::{io, str};
@@ -15,7 +15,7 @@ pub struct Reason<'a> {
     pub error: io::Error,
 }
 
-/// The error that is to be told of a link that ended with a status, by what the system said last of the inputs and
+/// The error that is to be reported of a link that ended with a status, by what the system said last of the inputs and
 /// of the output.
 pub fn reason_of<'a>(
     status: &'a Status,
@@ -26,15 +26,15 @@ pub fn reason_of<'a>(
     ensures { option_map (λ r. (r.path.now, r.error)) result ≡ reason_in status.now output.now read written }
 {
     match status {
-        Status::ReadFault(path) => told(path, read),
-        Status::DeviceFault => told(output, written),
+        Status::ReadFault(path) => reported(path, read),
+        Status::DeviceFault => reported(output, written),
         _ => None,
     }
 }
 
 /// An error with its path, where there is one.
-fn told<'a>(path: &'a Name, error: Option<io::Error>) -> Option<Reason<'a>>
-    ensures { option_map (λ r. (r.path.now, r.error)) result ≡ told_of path.now error }
+fn reported<'a>(path: &'a Name, error: Option<io::Error>) -> Option<Reason<'a>>
+    ensures { option_map (λ r. (r.path.now, r.error)) result ≡ reported_of path.now error }
 {
     match error {
         Some(error) => Some(Reason { path, error }),

@@ -83,8 +83,8 @@ fn entry(alloc: Global) -> Result<GlobalList, NoMemory> {
     Ok(globals)
 }
 
-/// What is settled of objects, added in their order.
-fn settled(alloc: Global, objects: &SummaryList) -> Result<Resolution, NoMemory> {
+/// What is resolved of objects, added in their order.
+fn resolved(alloc: Global, objects: &SummaryList) -> Result<Resolution, NoMemory> {
     let entry = Name::from_slice(alloc, b"_start")?;
     let mut resolver = Resolver::new(alloc, &entry)?;
     let mut number = 0u32;
@@ -122,7 +122,7 @@ fn laid_out(
         address: List::new(alloc),
         copies: List::new(alloc),
     };
-    let resolution = settled(alloc, objects)?;
+    let resolution = resolved(alloc, objects)?;
     let options = options(alloc, patch)?;
     Ok(full_layout(alloc, &resolution, objects, &needs, &options))
 }
@@ -135,17 +135,17 @@ fn one_placed(alloc: Global, asked: &[Asked]) -> Result<Result<Placement, Layout
 }
 
 /// A row as headers tell it: its name; its address, its offset in the file, its size and its alignment.
-type Told = (&'static [u8], [u64; 4]);
+type FileAnswers = (&'static [u8], [u64; 4]);
 
 /// Whether a row has this name and these numbers.
-fn is_row(row: &SectionRow, told: &Told) -> bool {
+fn is_row(row: &SectionRow, reported: &FileAnswers) -> bool {
     let numbers = [row.addr, row.offset, row.size, row.align];
-    row.key.name.as_slice() == told.0 && numbers == told.1
+    row.key.name.as_slice() == reported.0 && numbers == reported.1
 }
 
 /// Whether rows have these names and numbers.
-fn are_rows(rows: &[SectionRow], all: &[Told]) -> bool {
-    rows.len() == all.len() && rows.iter().zip(all).all(|(row, told)| is_row(row, told))
+fn are_rows(rows: &[SectionRow], all: &[FileAnswers]) -> bool {
+    rows.len() == all.len() && rows.iter().zip(all).all(|(row, reported)| is_row(row, reported))
 }
 
 /// The row of a section of an input.
@@ -169,7 +169,7 @@ fn two_codes(alloc: Global) -> Result<SummaryList, NoMemory> {
 }
 
 #[test]
-fn code_of_two_objects_stands_one_behind_the_other(rt: HostRuntime) -> Result<(), Fail> {
+fn code_of_two_objects_is_at_one_behind_the_other(rt: HostRuntime) -> Result<(), Fail> {
     let objects = two_codes(rt.alloc())?;
     let place = laid_out(rt.alloc(), 10, &objects)??;
     let wanted = [
@@ -189,7 +189,7 @@ fn thread_local_zeros_take_no_addresses(rt: HostRuntime) -> Result<(), Fail> {
         (b".mine", b".mine", Class::W, 8, 16),
     ];
     let place = one_placed(rt.alloc(), &asked)??;
-    let told: [Told; 6] = [
+    let reported: [FileAnswers; 6] = [
         (b".text", [0x401000, 0x1000, 64, 16]),
         (b".tdata", [0x402000, 0x2000, 64, 16]),
         (b".tbss", [0x402080, 0x2080, 128, 128]),
@@ -197,23 +197,23 @@ fn thread_local_zeros_take_no_addresses(rt: HostRuntime) -> Result<(), Fail> {
         (b".got", [0x402080, 0x2080, 0, 16]),
         (b".got.plt", [0x4020c0, 0x20c0, 24, 16]),
     ];
-    assert!(rt; are_rows(place.sections.as_slice(), &told));
+    assert!(rt; are_rows(place.sections.as_slice(), &reported));
     Ok(())
 }
 
 #[test]
-fn zeros_that_no_memory_holds_are_told_with_their_number(rt: HostRuntime) -> Result<(), Fail> {
+fn zeros_that_no_memory_holds_are_reported_with_their_number(rt: HostRuntime) -> Result<(), Fail> {
     let asked: [Asked; 2] = [
         (b".text", b".text", Class::X, 0, 1),
         (b".bss", b".bss", Class::Bss, 0x8000_0000_0000_0000, 1),
     ];
-    let told = LayoutFault::Limit(LimitFault {
+    let reported = LayoutFault::Limit(LimitFault {
         which: LimitKind::Memory,
         number: 10145709240540261760,
     });
     match one_placed(rt.alloc(), &asked)? {
         Ok(_) => assert!(rt; false),
-        Err(fault) => assert_eq!(rt; fault, told),
+        Err(fault) => assert_eq!(rt; fault, reported),
     }
     Ok(())
 }
@@ -275,10 +275,10 @@ fn many_kinds(alloc: Global) -> Result<SummaryList, NoMemory> {
 }
 
 #[test]
-fn sections_of_many_kinds_stand_as_in_a_linked_image(rt: HostRuntime) -> Result<(), Fail> {
+fn sections_of_many_kinds_are_at_as_in_a_linked_image(rt: HostRuntime) -> Result<(), Fail> {
     let objects = many_kinds(rt.alloc())?;
     let place = laid_out(rt.alloc(), 10, &objects)??;
-    let told: [Told; 10] = [
+    let reported: [FileAnswers; 10] = [
         (b".eh_frame", [0x401000, 0x1000, 0x40, 16]),
         (b".text", [0x402000, 0x2000, 0x140, 32]),
         (b".fini", [0x402140, 0x2140, 0x10, 16]),
@@ -290,7 +290,7 @@ fn sections_of_many_kinds_stand_as_in_a_linked_image(rt: HostRuntime) -> Result<
         (b".bss", [0x403180, 0x3180, 0x40, 64]),
         (b".debug_info", [0, 0x3180, 0x40, 16]),
     ];
-    assert!(rt; are_rows(place.sections.as_slice(), &told));
+    assert!(rt; are_rows(place.sections.as_slice(), &reported));
     Ok(())
 }
 
@@ -310,9 +310,9 @@ fn every_class(alloc: Global) -> Result<SummaryList, NoMemory> {
 /// The numbers of two images that this linker did not make, as `readelf -SW` prints them. One is of the objects with
 /// sections of many kinds: all rows but that of `.tbss` have its numbers, since thread-local zeros take no addresses.
 /// The other has `.tbss.y` of 12 bytes at 16 in it, as the only thread-local zeros: there `.tbss` has the alignment
-/// 16 and 0x40 bytes, and stands at the end of `.tdata` (there at 0x403000 with 0x80 bytes, and `.tbss` at 0x403080;
+/// 16 and 0x40 bytes, and is at the end of `.tdata` (there at 0x403000 with 0x80 bytes, and `.tbss` at 0x403080;
 /// here `.tdata` has 0x40), and the next section has the same address again.
-const EVERY_CLASS: [Told; 11] = [
+const EVERY_CLASS: [FileAnswers; 11] = [
     (b".eh_frame", [0x401000, 0x1000, 0x40, 16]),
     (b".text", [0x402000, 0x2000, 0x140, 32]),
     (b".fini", [0x402140, 0x2140, 0x10, 16]),
@@ -327,7 +327,7 @@ const EVERY_CLASS: [Told; 11] = [
 ];
 
 #[test]
-fn a_section_of_every_class_stands_as_in_linked_images(rt: HostRuntime) -> Result<(), Fail> {
+fn a_section_of_every_class_is_at_as_in_linked_images(rt: HostRuntime) -> Result<(), Fail> {
     let objects = every_class(rt.alloc())?;
     let place = laid_out(rt.alloc(), 10, &objects)??;
     assert!(rt; are_rows(place.sections.as_slice(), &EVERY_CLASS));
@@ -335,7 +335,7 @@ fn a_section_of_every_class_stands_as_in_linked_images(rt: HostRuntime) -> Resul
 }
 
 #[test]
-fn functions_of_an_array_stand_by_their_numbers(rt: HostRuntime) -> Result<(), Fail> {
+fn functions_of_an_array_are_at_by_their_numbers(rt: HostRuntime) -> Result<(), Fail> {
     let asked: [Asked; 4] = [
         (b".init_array", b".init_array", Class::W, 8, 8),
         (b".init_array.200", b".init_array", Class::W, 8, 8),

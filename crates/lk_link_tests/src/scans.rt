@@ -75,7 +75,7 @@ const LOCAL_IN_TABLE: [Change; 5] = [
     (FIRST_SYMBOL, 1),
 ];
 
-/// So it does, and the code is the read-only `.eh_frame`, whose name stands in place of that of section 5.
+/// So it does, and the code is the read-only `.eh_frame`, whose name is in place of that of section 5.
 const LOCAL_IN_TABLE_FROM_FRAME: [Change; 15] = [
     (START_INFO, 0x02),
     (START_SECTION, 3),
@@ -140,7 +140,7 @@ fn with_one(alloc: Global, entry: &[u8], input: &InputSummary) -> Result<Resolve
 }
 
 /// What the added inputs decide.
-fn settled(resolver: Resolver) -> Result<Resolution, Fail>
+fn resolved(resolver: Resolver) -> Result<Resolution, Fail>
     ensures { IfOk result (λ resolution. 1 < length resolution.paths) }
 {
     let resolution = resolver.settle().ok().ok_or("no resolution")?;
@@ -156,14 +156,14 @@ fn together(alloc: Global, first: &InputSummary, second: &InputSummary) -> Resul
 {
     let mut resolver = with_one(alloc, b"_start", first)?;
     resolver.add_input(1, second)?;
-    settled(resolver)
+    resolved(resolver)
 }
 
 type Answer = Result<Scanned, ScanFailure>;
 
 /// What a scan of an object answers in a link of its own.
 fn scanned_alone(alloc: Global, object: &Object, entry: &[u8]) -> Result<Answer, Fail> {
-    let resolution = settled(with_one(alloc, entry, object.summary())?)?;
+    let resolution = resolved(with_one(alloc, entry, object.summary())?)?;
     Ok(scan(alloc, object, 0, &resolution))
 }
 
@@ -237,7 +237,7 @@ fn only(alloc: Global, fault: Fault) -> Result<ScanFailure, NoMemory> {
     Ok(ScanFailure::Faults(faults))
 }
 
-/// That `f` is undefined, as its first site tells.
+/// That `f` is undefined, as its first site reports.
 fn undefined(alloc: Global) -> Result<ScanFailure, NoMemory> {
     let name = Name::from_slice(alloc, b"f")?;
     let site = site(alloc, 1)?;
@@ -309,7 +309,7 @@ fn with_shared(alloc: Global) -> Result<Answer, Fail> {
 }
 
 #[test]
-fn a_name_that_is_undefined_at_two_sites_is_told_at_the_first(rt: HostRuntime) -> Result<(), Fail> {
+fn a_name_that_is_undefined_at_two_sites_is_reported_at_the_first(rt: HostRuntime) -> Result<(), Fail> {
     let answer = scanned(rt.alloc(), &[], b"_start")?;
     assert_eq!(rt; answer.err(), Some(undefined(rt.alloc())?));
     Ok(())
@@ -326,7 +326,7 @@ fn a_weak_reference_may_go_nowhere(rt: HostRuntime) -> Result<(), Fail> {
 }
 
 #[test]
-fn a_slot_that_is_needed_twice_stands_once(rt: HostRuntime) -> Result<(), Fail> {
+fn a_slot_that_is_needed_twice_is_at_once(rt: HostRuntime) -> Result<(), Fail> {
     let changes = [
         (FIRST_TYPE, 9),
         (FIRST_SYMBOL, 1),
@@ -357,7 +357,7 @@ fn an_imported_function_has_one_entry(rt: HostRuntime) -> Result<(), Fail> {
 }
 
 #[test]
-fn a_local_symbol_of_a_section_that_is_not_linked_is_told(rt: HostRuntime) -> Result<(), Fail> {
+fn a_local_symbol_of_a_section_that_is_not_linked_is_reported(rt: HostRuntime) -> Result<(), Fail> {
     let answer = scanned(rt.alloc(), &LOCAL_IN_TABLE, b"f")?;
     assert_eq!(rt; answer.err(), Some(dropped(rt.alloc())?));
     Ok(())
@@ -371,7 +371,7 @@ fn a_frame_may_go_to_a_section_that_is_not_linked(rt: HostRuntime) -> Result<(),
 }
 
 #[test]
-fn a_link_tells_a_name_of_two_objects_once(rt: HostRuntime) -> Result<(), Fail> {
+fn a_link_reports_a_name_of_two_objects_once(rt: HostRuntime) -> Result<(), Fail> {
     let answer = linked(rt.alloc(), &[], &[(START_LETTER, b'x')])?;
     assert_eq!(rt; answer.err(), Some(undefined(rt.alloc())?));
     Ok(())

@@ -28,10 +28,10 @@ use Rattle.lk_model.specs.Views.{Resolved}
 use Rattle.lk_model.specs.declared.layouts.Placement.{Placement}
 use Rattle.lk_model.proofs.DynamicLinks.{program, program_place, kinds, kinds_exported, kinds_place, dynamic_place, kept_keys, slot, thread_slot, entry, fill, tag}
 
--- the program stands where these sizes put it
-program_stands : dynamic_place program ≡ program_place
+-- the program is where these sizes put it
+program_is_at : dynamic_place program ≡ program_place
 unfolding program dynamic_table_sizes dynamic_names dynamic_rows needed_names dynamic_texts interp_bytes slot_fills table_bytes in_order section_rank is_patched room_of step_to patched_room rows_of piece_rows
-program_stands = refl
+program_is_at = refl
 
 -- its dynamic names are the three functions and the variable; nothing of its own is asked for
 program_names : dynamic_names program ≡ 1 ∷ 4 ∷ 5 ∷ 7 ∷ []
@@ -117,7 +117,7 @@ program_dynamic :
 unfolding program dynamic_names dynamic_rows needed_names dynamic_texts dynamic_entries usual_dynamic_entries
 program_dynamic = refl
 
--- a table's bytes as they are told before the placement, and as they are
+-- a table's bytes as they are reported before the placement, and as they are
 abbrev sizes_of : Resolved → Placement → List (SectionKey × ℕ)
 sizes_of r place = dynamic_table_sizes r (kept_keys r) place.slots
 
@@ -180,7 +180,7 @@ kinds_needed : needed_names kinds ≡ codes "l.so" ∷ codes "m.so" ∷ []
 unfolding kinds needed_names
 kinds_needed = refl
 
--- a run path that is a text already stands once
+-- a run path that is a text already is once
 repeated_text :
     dynamic_texts (record kinds { options = record kinds.options { runpath = codes "m.so" } })
     ≡ [] ∷ codes "abs" ∷ codes "com" ∷ codes "ext" ∷ codes "tls_ext" ∷ codes "var" ∷ codes "func" ∷ codes "l.so" ∷ codes "m.so" ∷ []
@@ -194,10 +194,10 @@ plt_alone :
 unfolding plt_bytes bytes_of
 plt_alone = refl
 
--- where everything stands
-kinds_stand : dynamic_place kinds_exported ≡ kinds_place
+-- where everything is
+kinds_are_at : dynamic_place kinds_exported ≡ kinds_place
 unfolding kinds_exported dynamic_table_sizes dynamic_names dynamic_rows needed_names dynamic_texts interp_bytes slot_fills table_bytes in_order section_rank is_patched room_of step_to patched_room rows_of piece_rows
-kinds_stand = refl
+kinds_are_at = refl
 
 -- thread-local values count from their segment; an absolute one is what it is; a common is a variable;
 -- an import whose address is taken has that of its PLT entry; a copy has the import's size and type, but

@@ -1,4 +1,4 @@
--- Each table of a dynamic link has as many bytes as its size says, which is told before anything is
+-- Each table of a dynamic link has as many bytes as its size says, which is reported before anything is
 -- placed.
 use Rattle.std.specs.Prelude.{◌≡◌, ℕ, ◌+◌, ◌*◌, Bool, true, false, if◌then◌else◌, List, [], ◌∷◌, ◌++◌, map, filter, length, flat_map, find, Option, Some, None, is_some, refl}
 use Rattle.std.specs.List.{AllByRecursion, list_any, enumerate_from, range_with_len}
@@ -31,7 +31,7 @@ use Rattle.lk_model.specs.Views.{Resolved}
 use Rattle.lk_model.specs.declared.layouts.Placement.{Placement}
 use Rattle.lk_model.specs.declared.layouts.SectionKey.{SectionKey}
 use Rattle.lk_model.specs.declared.layouts.SectionRow.{SectionRow}
-use Rattle.lk_model.proofs.KeysFound.{same_key_tells}
+use Rattle.lk_model.proofs.KeysFound.{same_key_reports}
 use Rattle.lk_model.proofs.HashTables.{hash_words_are_a_table}
 
 -- records of one width, one after another
@@ -158,8 +158,8 @@ same_key_turned a b = go (same_key a b) (same_key b a) refl refl
     go : (one other : Bool) → same_key a b ≡ one → same_key b a ≡ other → same_key a b ≡ same_key b a
     go true true x y = x ∙ sym y
     go false false x y = x ∙ sym y
-    go true false x y = subst (λ k. same_key a k ≡ same_key k a) (same_key_tells a b x) refl
-    go false true x y = subst (λ k. same_key k b ≡ same_key b k) (same_key_tells b a y) refl
+    go true false x y = subst (λ k. same_key a k ≡ same_key k a) (same_key_reports a b x) refl
+    go false true x y = subst (λ k. same_key k b ≡ same_key b k) (same_key_reports b a y) refl
 
 -- a key is among those of rows where it has a row
 has_row : (key : SectionKey) (rows : List SectionRow) → list_any (same_key key) (map (λ (row : SectionRow). row.key) rows) ≡ is_some (find (λ (row : SectionRow). same_key row.key key) rows)

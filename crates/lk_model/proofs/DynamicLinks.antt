@@ -1,5 +1,5 @@
 -- Links with shared inputs, of which the examples of the tables of a dynamic link speak: what resolution
--- finds of their inputs, and where everything stands.
+-- finds of their inputs, and where everything is.
 use Rattle.std.specs.Prelude.{ℕ, ◌+◌, ◌*◌, pos, true, false, List, [], ◌∷◌, ◌++◌, Option, Some, find, map, length, option_map, codes}
 use Rattle.lk_elf.specs.Fields.{num, number_of, bytes_of, signed64, unsigned64}
 use Rattle.lk_elf.specs.Numbers.{shf_alloc, shf_tls, stb_global, stb_weak, stt_func, stt_notype, stt_object, stt_section, stt_tls, stv_hidden, stv_protected}

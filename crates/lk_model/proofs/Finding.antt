@@ -1,4 +1,4 @@
--- How what the added inputs decide grows by one more input, and where it stands in what resolution
+-- How what the added inputs decide grows by one more input, and where it is in what resolution
 -- finds.
 use Rattle.std.specs.Prelude.{◌≡◌, refl, ℕ, ◌+◌, Bool, true, false, cond, List, [], ◌∷◌, ◌++◌, map, flat_map, filter, filter_map, fold, zip, Option, Some, None, option_map}
 use Rattle.std.specs.Str.{bytes_eq}
@@ -33,7 +33,7 @@ with_claims-push claimed (y ∷ ys) x =
     (with_claims-push (claimed ++ signatures_in y.summary) ys x
     ∙ ap (λ (c : List (List ℕ)). with_claims (claimed ++ signatures_in y.summary) ys ++ (c, x) ∷ []) (append_assoc claimed (signatures_in y.summary) (claimed_by ys)))
 
--- its symbols stand after those of the others
+-- its symbols are after those of the others
 pub symbols_of-push : (added : List Numbered) (x : Numbered) → symbols_of (added ++ x ∷ []) ≡ symbols_of added ++ contributions_by (claimed_by added) x
 symbols_of-push added x =
     let f : List (List ℕ) × Numbered → List Contribution = λ c. contributions_by c.0 c.1 in

@@ -8,7 +8,7 @@ use Rattle.std.proofs.lemmas.Bool.Decides.{nat_tests}
 use Rattle.lk_model.specs.Rooms.{is_fillable, step_to}
 use Rattle.lk_model.specs.FirstFit.{fits_at, fit_in}
 use Rattle.lk_model.specs.declared.layouts.Hole.{Hole}
-use Rattle.lk_model.proofs.Multiples.{round_up_above, round_up_least, fillable_tells, tells_fillable, too_small, step_above, step_fillable, step_multiple, step_least}
+use Rattle.lk_model.proofs.Multiples.{round_up_above, round_up_least, fillable_reports, reports_fillable, too_small, step_above, step_fillable, step_multiple, step_least}
 
 -- what `find` answers by its first item
 find_here : (p : ℕ → Bool) (x : ℕ) (xs : List ℕ) → p x ≡ true → find p (x ∷ xs) ≡ Some x
@@ -61,19 +61,19 @@ abbrev pub end_of : Hole → ℕ
 end_of hole = hole.start + hole.length
 
 -- what `fits_at` says of a place
-fits_tells :
+fits_reports :
     (hole : Hole) (least size at : ℕ)
     → fits_at hole least size at ≡ true
     → IsTrue (is_fillable least (at - hole.start)) × (at + size ≤ end_of hole) × IsTrue (is_fillable least (end_of hole - (at + size)))
-fits_tells hole least size at fits = (grind (arith, nat_tests), grind (arith, nat_tests), grind (arith, nat_tests))
+fits_reports hole least size at fits = (grind (arith, nat_tests), grind (arith, nat_tests), grind (arith, nat_tests))
 
-tells_fits :
+reports_fits :
     (hole : Hole) (least size at : ℕ)
     → IsTrue (is_fillable least (at - hole.start))
     → at + size ≤ end_of hole
     → IsTrue (is_fillable least (end_of hole - (at + size)))
     → fits_at hole least size at ≡ true
-tells_fits hole least size at before inside behind = grind (arith, nat_tests)
+reports_fits hole least size at before inside behind = grind (arith, nat_tests)
 
 -- a multiple that fits, such that no multiple below it does
 pub record IsLeastFit (hole : Hole) (least size align at : ℕ) : Type 0 where
@@ -101,7 +101,7 @@ fit_in_some hole least size align at positive fit =
     let ordered : q ≤ fit.factor = le_of_mul-le-mul_right {k = align} least_multiple positive in
     let same : q + d ≡ fit.factor = omega arith in
     let there : q * align + d * align ≡ at = place_is q d align ∙ ap (λ x. x * align) same ∙ sym e in
-    let inside = fits_tells hole least size at fit.fits in
+    let inside = fits_reports hole least size at fit.fits in
     let start = round_up_above hole.start align positive in
     let spare : d * align ≤ hole.length = omega (arith, inside.1, there, start) in
     let few : d ≤ hole.length / align = (le-div_iff_mul-le {k = align} positive).1 spare in
@@ -153,7 +153,7 @@ near_is_least :
     → fits_at hole least size (k * align) ≡ true
     → near hole least align ≤ k * align
 near_is_least hole least size align k positive above fits =
-    step_least least hole.start align k positive above (fits_tells hole least size (k * align) fits).0
+    step_least least hole.start align k positive above (fits_reports hole least size (k * align) fits).0
 
 -- it is the place where it fits
 pub near_fits :
@@ -168,7 +168,7 @@ near_fits hole least size align positive inside behind =
       factor = multiple.0;
       multiple = multiple.1;
       above = step_above least hole.start align positive;
-      fits = tells_fits hole least size (near hole least align) (step_fillable least hole.start align positive) inside behind;
+      fits = reports_fits hole least size (near hole least align) (step_fillable least hole.start align positive) inside behind;
       no_less = λ k above fits. near_is_least hole least size align k positive above fits;
     })
 
@@ -181,7 +181,7 @@ pub near_too_long :
 near_too_long hole least size align positive long =
     fit_in_none hole least size align positive (λ k above fits.
     let not_less = near_is_least hole least size align k positive above fits in
-    let inside = (fits_tells hole least size (k * align) fits).1 in
+    let inside = (fits_reports hole least size (k * align) fits).1 in
     omega (arith, not_less, inside, long))
 
 -- where the bytes lie in the hole there and leave too little behind, a place ends with the hole
@@ -195,9 +195,9 @@ ends_with :
     → k * align ≡ end_of hole - size
 ends_with hole least size align k positive inside small above fits =
     let not_less = near_is_least hole least size align k positive above fits in
-    let fits_there = fits_tells hole least size (k * align) fits in
+    let fits_there = fits_reports hole least size (k * align) fits in
     let left = too_small least (end_of hole - (near hole least align + size)) small in
-    elim (fillable_tells least (end_of hole - (k * align + size)) fits_there.2) [
+    elim (fillable_reports least (end_of hole - (k * align + size)) fits_there.2) [
       | inl none ↦ omega (arith, none, fits_there.1)
       | inr enough ↦ omega (arith, enough, not_less, left.1)
     ]
@@ -217,7 +217,7 @@ last_fits hole least size align k positive inside small multiple before =
       factor = k;
       multiple = multiple;
       above = omega (arith, start, inside);
-      fits = tells_fits hole least size (end_of hole - size) before (omega (arith, start, inside)) (tells_fillable least (end_of hole - (end_of hole - size + size)) (inl (omega (arith, inside))));
+      fits = reports_fits hole least size (end_of hole - size) before (omega (arith, start, inside)) (reports_fillable least (end_of hole - (end_of hole - size + size)) (inl (omega (arith, inside))));
       no_less = λ j above fits. omega (arith, ends_with hole least size align j positive inside small above fits);
     })
 
@@ -232,6 +232,6 @@ pub last_fails :
 last_fails hole least size align positive inside small fails =
     fit_in_none hole least size align positive (λ k above fits.
     let there = ends_with hole least size align k positive inside small above fits in
-    let before = (fits_tells hole least size (k * align) fits).0 in
+    let before = (fits_reports hole least size (k * align) fits).0 in
     let fillable : IsTrue (is_fillable least (end_of hole - size - hole.start)) = rw (sym there) before in
     differ (is_fillable least (end_of hole - size - hole.start)) (fails k (sym there)) fillable)

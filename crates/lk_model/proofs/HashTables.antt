@@ -79,7 +79,7 @@ split_entries n m (d ∷ done) x rest e = rw (split_entries (n + 1) m done x res
 last_more : (bucket : ℕ) (done : List ℕ) (x m : ℕ) → m ≡ 1 + length done → last_entry bucket (done ++ x ∷ []) ≡ further bucket (last_entry bucket done) (m, x)
 last_more bucket done x m e = rw (split_entries 1 m done x [] e) (fold_push (further bucket) 0 (enumerate_from 1 done) (m, x))
 
--- the two counts and the words of the buckets, which stand before the chains
+-- the two counts and the words of the buckets, which are before the chains
 abbrev front_words : List (List ℕ) → List ℕ
 front_words names =
     bucket_count (entry_count names) ∷ entry_count names

@@ -1,5 +1,5 @@
 -- Ordered sections stay as they are when they are ordered again, and those that are not loaded come last;
--- so the rows of a full placement stand in their order.
+-- so the rows of a full placement are in their order.
 use Rattle.std.specs.Prelude.{◌≡◌, ℕ, zero, suc, Bool, true, false, List, [], ◌∷◌, ◌++◌, Option, Some, None, ◌+◌, ◌<◌, ◌≤◌, ◌==◌, not, cond, if◌then◌else◌, codes, bytes_eq, length, filter, flat_map, map, refl}
 use Rattle.std.specs.List.{range_with_len, list_any}
 use Rattle.std.proofs.Common.{arith, inl, inr, sym, ap, ◌∙◌}
@@ -31,18 +31,18 @@ has_rank rank key = section_rank key == rank
 abbrev by_rank : List ℕ → List SectionKey → List SectionKey
 by_rank ranks keys = flat_map (λ rank. filter (has_rank rank) keys) ranks
 
-eq_tells : (a b : ℕ) → (a == b) ≡ true → a ≡ b
-eq_tells a b same = grind (arith, nat_tests)
+eq_reports : (a b : ℕ) → (a == b) ≡ true → a ≡ b
+eq_reports a b same = grind (arith, nat_tests)
 
 not_eq : (a b : ℕ) → (a ≡ b → ⊥) → (a == b) ≡ false
 not_eq a b apart = go (a == b) refl
   where
     go : (c : Bool) → (a == b) ≡ c → (a == b) ≡ false
-    go true e = absurd (apart (eq_tells a b e))
+    go true e = absurd (apart (eq_reports a b e))
     go false e = e
 
 rank_apart : (r s : ℕ) → (r ≡ s → ⊥) → (x : SectionKey) → has_rank s x ≡ true → has_rank r x ≡ false
-rank_apart r s apart x there = not_eq (section_rank x) r (λ e. apart (sym e ∙ eq_tells (section_rank x) s there))
+rank_apart r s apart x there = not_eq (section_rank x) r (λ e. apart (sym e ∙ eq_reports (section_rank x) s there))
 
 -- a rank below or above a range has no key in it
 rank_outside :
@@ -156,7 +156,7 @@ rank_is_loaded r under key there = go (is_alloc key.class) refl
     go true e = e
     go false e =
         let last = last_rank key.class key (rw e refl) in
-        let at = eq_tells (section_rank key) r there in
+        let at = eq_reports (section_rank key) r there in
         absurd (omega (arith, last, at, under))
 
 -- what has the last rank is not
@@ -167,7 +167,7 @@ rank_is_unloaded key there = go (is_alloc key.class) refl
     go : (b : Bool) → is_alloc key.class ≡ b → not (is_alloc key.class) ≡ true
     go true e =
         let below = rank_below key.class key e in
-        let at = eq_tells (section_rank key) 30 there in
+        let at = eq_reports (section_rank key) 30 there in
         absurd (omega (arith, below, at))
     go false e = rw e refl
 
@@ -210,7 +210,7 @@ last_unloaded keys =
     ∙ (filter_over key_unloaded (has_rank 30) keys (λ x e. rank_is_unloaded x e)
     ∙ sym (append-nil (filter (has_rank 30) keys)))
 
--- ordered keys are parted as they are: the loaded ones stand first
+-- ordered keys are parted as they are: the loaded ones are first
 pub in_order_parted : (keys : List SectionKey) → filter key_loaded (in_order keys) ++ filter key_unloaded (in_order keys) ≡ in_order keys
 unfolding in_order
 in_order_parted keys =
@@ -255,9 +255,9 @@ extent_keys r slots (key ∷ keys) =
     ∙ ap (λ rest. key ∷ rest) (extent_keys r slots keys)
 
 -- rows have the keys of their extents
-row_keys_told : (rows : List SectionRow) → map key_of_extent (map extent_of_row rows) ≡ map key_of_row rows
-row_keys_told [] = refl
-row_keys_told (row ∷ rows) = ap (λ rest. row.key ∷ rest) (row_keys_told rows)
+row_keys_reported : (rows : List SectionRow) → map key_of_extent (map extent_of_row rows) ≡ map key_of_row rows
+row_keys_reported [] = refl
+row_keys_reported (row ∷ rows) = ap (λ rest. row.key ∷ rest) (row_keys_reported rows)
 
 -- extents that pass a test of their keys have the keys that pass it
 keys_filter : (p : SectionKey → Bool) (extents : List Extent) → map key_of_extent (filter (λ (extent : Extent). p extent.key) extents) ≡ filter p (map key_of_extent extents)
@@ -278,7 +278,7 @@ pub row_keys :
     → map key_of_row (rows_of extents)
     ≡ filter key_loaded (map key_of_extent extents) ++ filter key_unloaded (map key_of_extent extents)
 row_keys extents =
-    sym (row_keys_told (rows_of extents))
+    sym (row_keys_reported (rows_of extents))
     ∙ (ap (map key_of_extent) (extents_of_rows extents)
     ∙ (map-append key_of_extent (filter is_loaded extents) (filter is_unloaded extents)
     ∙ (ap (λ xs. xs ++ map key_of_extent (filter is_unloaded extents)) (keys_filter key_loaded extents)

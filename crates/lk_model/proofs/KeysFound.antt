@@ -39,8 +39,8 @@ class_again Tbss = refl
 class_again Bss = refl
 class_again N = refl
 
-eq_tells : (a b : ℕ) → (a == b) ≡ true → a ≡ b
-eq_tells a b same = grind (arith, nat_tests)
+eq_reports : (a b : ℕ) → (a == b) ≡ true → a ≡ b
+eq_reports a b same = grind (arith, nat_tests)
 
 eq_self : (a : ℕ) → (a == a) ≡ true
 eq_self a = grind (arith, nat_tests)
@@ -62,9 +62,9 @@ same_key_self key =
     both_hold (same_class key.class key.class) (bytes_eq key.name key.name) (eq_self (class_number key.class)) ((bytes_eq-Decides key.name key.name).1 refl)
 
 -- keys that are the same are one
-pub same_key_tells : (a b : SectionKey) → same_key a b ≡ true → a ≡ b
-same_key_tells a b same =
-    let numbers : class_number a.class ≡ class_number b.class = eq_tells (class_number a.class) (class_number b.class) (first_holds (same_class a.class b.class) (bytes_eq a.name b.name) same) in
+pub same_key_reports : (a b : SectionKey) → same_key a b ≡ true → a ≡ b
+same_key_reports a b same =
+    let numbers : class_number a.class ≡ class_number b.class = eq_reports (class_number a.class) (class_number b.class) (first_holds (same_class a.class b.class) (bytes_eq a.name b.name) same) in
     let classes : a.class ≡ b.class = sym (class_again a.class) ∙ (ap class_of numbers ∙ class_again b.class) in
     let names : a.name ≡ b.name = (bytes_eq-Decides a.name b.name).0 (second_holds (same_class a.class b.class) (bytes_eq a.name b.name) same) in
     ap (λ name. named name a.class) names ∙ ap (λ class. named b.name class) classes
@@ -122,7 +122,7 @@ among_its_rank key (first ∷ keys) there = go (same_key key first) (section_ran
         → (list_any (same_key key) keys ≡ true → list_any (same_key key) (filter (λ k. section_rank k == section_rank key) keys) ≡ true)
         → list_any (same_key key) (filter (λ k. section_rank k == section_rank key) (first ∷ keys)) ≡ true
     go true c e f rest =
-        let same = same_key_tells key first e in
+        let same = same_key_reports key first e in
         let ranks : (section_rank first == section_rank key) ≡ true = rw same (eq_self (section_rank first)) in
         rw ranks (rw e refl)
     go false true e f rest = rw f (rw e (rest (rw e at there)))

@@ -30,8 +30,8 @@ mod StaticExamples
 mod StaticRefusals
 pub mod KeysFound
 pub mod PiecesPlaced
-pub mod TablesTold
-pub mod RowsTold
+pub mod TablesReported
+pub mod RowsReported
 pub mod TablesThere
 mod ValueExamples
 mod HashExamples

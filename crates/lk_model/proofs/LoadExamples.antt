@@ -54,7 +54,7 @@ linked =
     ∷ 184 ∷ 1 ∷ 64 ∷ 0 ∷ 0 ∷ 0 ∷ 0 ∷ 0 ∷ 2 ∷ 0 ∷ 0 ∷ 0 ∷ 0 ∷ 0 ∷ 0 ∷ 0 ∷ 24 ∷ 0 ∷ 0 ∷ 0 ∷ 0 ∷ 0 ∷ 0 ∷ 0 ∷ 0 ∷ 0 ∷ 0 ∷ 0
     ∷ 0 ∷ 0 ∷ 0 ∷ 0 ∷ 0 ∷ 0 ∷ 0 ∷ 0 ∷ 0 ∷ 0 ∷ 0 ∷ 0 ∷ 1 ∷ 0 ∷ 0 ∷ 0 ∷ 0 ∷ 0 ∷ 0 ∷ 0 ∷ 232 ∷ 3 ∷ 0 ∷ 0 ∷ 0 ∷ 0 ∷ 0 ∷ 0 ∷ []
 
--- what stands in memory: the ends of both ranges, zeros past the bytes of the file, and nothing beside
+-- what is in memory: the ends of both ranges, zeros past the bytes of the file, and nothing beside
 tiny_loaded :
     (loaded tiny 4194304 ≡ Some (record { byte = 127; rights = 5 }))
     × (loaded tiny 4194305 ≡ Some (record { byte = 69; rights = 5 }))

@@ -28,11 +28,11 @@ round_up_least n a k positive under =
     mul-le-mul_right a whole
 
 -- what `is_fillable` says
-pub fillable_tells : (least n : ℕ) → IsTrue (is_fillable least n) → (n ≡ 0) ⊎ (least ≤ n)
-fillable_tells least n fillable = grind (arith, nat_tests)
+pub fillable_reports : (least n : ℕ) → IsTrue (is_fillable least n) → (n ≡ 0) ⊎ (least ≤ n)
+fillable_reports least n fillable = grind (arith, nat_tests)
 
-pub tells_fillable : (least n : ℕ) → (n ≡ 0) ⊎ (least ≤ n) → IsTrue (is_fillable least n)
-tells_fillable least n fillable = grind (arith, nat_tests)
+pub reports_fillable : (least n : ℕ) → (n ≡ 0) ⊎ (least ≤ n) → IsTrue (is_fillable least n)
+reports_fillable least n fillable = grind (arith, nat_tests)
 
 pub too_small : (least n : ℕ) → is_fillable least n ≡ false → (0 < n) × (n < least)
 too_small least n small = (grind (arith, nat_tests), grind (arith, nat_tests))
@@ -83,7 +83,7 @@ step_least least cursor align k positive above fillable =
       | inr at ↦
           let small = too_small least (round_up cursor align - cursor) at.1 in
           let beyond : cursor + least ≤ k * align =
-          elim (fillable_tells least (k * align - cursor) fillable) [
+          elim (fillable_reports least (k * align - cursor) fillable) [
             | inl none ↦ omega arith
             | inr enough ↦ omega arith
           ] in

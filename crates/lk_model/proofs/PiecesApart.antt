@@ -1,4 +1,4 @@
--- Pieces of one section: each stands at or above the end of those before it, and the last ends in the room.
+-- Pieces of one section: each is at or above the end of those before it, and the last ends in the room.
 use Rattle.std.specs.Prelude.{◌≡◌, ℕ, IsTrue, List, [], ◌∷◌, ◌++◌, ◌+◌, ◌-◌, ◌*◌, ◌/◌, ◌<◌, ◌≤◌, fold}
 use Rattle.std.specs.List.{AllByRecursion}
 use Rattle.std.proofs.Common.{arith}
@@ -18,7 +18,7 @@ PiecesAligned pieces = AllByRecursion (λ (piece : KeptPiece). 0 < piece.align) 
 pub patched_next_is_end : (least cursor : ℕ) (piece : KeptPiece) → 0 < piece.size → patched_next least cursor piece ≡ patched_offset least cursor piece + piece.size
 patched_next_is_end least cursor piece filled = grind (arith, nat_tests, filled)
 
--- a piece that is not empty stands at or above the cursor
+-- a piece that is not empty is at or above the cursor
 pub patched_offset_above : (least cursor : ℕ) (piece : KeptPiece) → 0 < piece.align → 0 < piece.size → cursor ≤ patched_offset least cursor piece
 patched_offset_above least cursor piece aligned filled =
     let above = step_above least cursor piece.align aligned in
@@ -49,7 +49,7 @@ patched_ends_below least earlier piece more aligned filled =
     let on = patched_grows least (patched_next least (patched_end least earlier) piece) more aligned in
     omega (arith, joined, ends, on)
 
--- so a later one that is not empty stands at or above its end
+-- so a later one that is not empty is at or above its end
 pub patched_apart :
     (least : ℕ) (earlier : List KeptPiece) (piece : KeptPiece) (more : List KeptPiece) (later : KeptPiece)
     → PiecesAligned more
@@ -104,7 +104,7 @@ sequence_ends_below earlier piece more aligned =
     let on = sequence_grows (sequence_offset (sequence_end earlier) piece + piece.size) more aligned in
     omega (arith, joined, on)
 
--- so a later one stands at or above its end
+-- so a later one is at or above its end
 pub sequence_apart :
     (earlier : List KeptPiece) (piece : KeptPiece) (more : List KeptPiece) (later : KeptPiece)
     → PiecesAligned more

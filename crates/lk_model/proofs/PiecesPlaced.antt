@@ -9,7 +9,7 @@ use Rattle.lk_model.specs.Views.{KeptPiece, Resolved}
 use Rattle.lk_model.specs.declared.layouts.Placement.{Placement}
 use Rattle.lk_model.specs.declared.layouts.SectionKey.{SectionKey}
 use Rattle.lk_model.specs.declared.layouts.SectionRow.{SectionRow}
-use Rattle.lk_model.proofs.KeysFound.{same_key_self, same_key_tells, kept_has_row}
+use Rattle.lk_model.proofs.KeysFound.{same_key_self, same_key_reports, kept_has_row}
 
 -- a row of the key, its number counted from i, and that it is the one that is found
 pub record FoundRow (rows : List SectionRow) (key : SectionKey) (i : ℕ) : Type 0 where
@@ -23,7 +23,7 @@ differ : false ≡ true → ⊥
 differ e = grind (arith, e)
 
 same_key_back : (a b : SectionKey) → same_key a b ≡ true → same_key b a ≡ true
-same_key_back a b same = rw (same_key_tells a b same) (same_key_self b)
+same_key_back a b same = rw (same_key_reports a b same) (same_key_self b)
 
 -- where a row has the key, the first of them is found
 pub found_row : (rows : List SectionRow) (key : SectionKey) (i : ℕ) → list_any (same_key key) (map (λ (row : SectionRow). row.key) rows) ≡ true → FoundRow rows key i
@@ -50,19 +50,19 @@ pub numbered_row_found : (rows : List SectionRow) (key : SectionKey) (f : FoundR
 numbered_row_found rows key f = let number : 0 + f.number ≡ f.number = omega arith in rw number at f.found
 
 -- the kept pieces, as the rows tell them
-kept_told :
+kept_reported :
     (rows : List SectionRow) (all pieces : List KeptPiece) (i : ℕ)
     → AllByRecursion (λ (piece : KeptPiece). list_any (same_key piece.key) (map (λ (row : SectionRow). row.key) rows) ≡ true) pieces
     → map as_placed (filter_map (λ (entry : ℕ × KeptPiece). piece_row rows all (take entry.0 all) entry.1) (enumerate_from i pieces)) ≡ map as_kept pieces
-kept_told rows all [] i has = refl
-kept_told rows all (piece ∷ pieces) i has =
+kept_reported rows all [] i has = refl
+kept_reported rows all (piece ∷ pieces) i has =
     let f = found_row rows piece.key 0 has.0 in
-    rw (numbered_row_found rows piece.key f) (ap (λ rest. as_kept piece ∷ rest) (kept_told rows all pieces (i + 1) has.1))
+    rw (numbered_row_found rows piece.key f) (ap (λ rest. as_kept piece ∷ rest) (kept_reported rows all pieces (i + 1) has.1))
 
 -- the placed pieces are exactly the kept ones
 pub full_kept : (r : Resolved) → map as_placed (full_place r).pieces ≡ map as_kept r.kept
 unfolding full_place piece_rows
-full_kept r = kept_told (full_place r).sections r.kept r.kept 0 (kept_has_row r)
+full_kept r = kept_reported (full_place r).sections r.kept r.kept 0 (kept_has_row r)
 
 -- each piece is in its output section
 placed_in_section :

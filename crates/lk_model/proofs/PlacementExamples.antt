@@ -62,7 +62,7 @@ smallest_headers = refl
 abbrev pair : Resolved
 pair = link (kept 0 1 (codes ".text") X 16 16 ∷ kept 1 1 (codes ".text") X 16 16 ∷ [])
 
--- they stand one behind the other
+-- they are one behind the other
 pair_place :
     full_place pair
     ≡ record {
@@ -87,13 +87,13 @@ vast_memory :
 unfolding full_place extent_of rows_of piece_rows section_keys table_sizes in_order section_rank is_patched room_of step_to patched_room memory_of
 vast_memory = refl
 
--- what a field does not hold is told as the greatest that it holds
+-- what a field does not hold is reported as the greatest that it holds
 vaster_memory :
     memory_of (full_place (link (kept 0 1 (codes ".bss") Bss (2 ^ 63) 1 ∷ kept 0 2 (codes ".bss") Bss (2 ^ 63) 1 ∷ []))) ≡ 18446744073709551615
 unfolding full_place extent_of rows_of piece_rows section_keys table_sizes in_order section_rank is_patched room_of step_to patched_room memory_of
 vaster_memory = refl
 
--- thread-local data of alignment 16 stands at the zeros' alignment of 128; the zeros follow it, and the
+-- thread-local data of alignment 16 is at the zeros' alignment of 128; the zeros follow it, and the
 -- next section goes on as if they were not there
 abbrev threads : Resolved
 threads =
@@ -164,7 +164,7 @@ frames =
     ∷ kept 2 1 (codes ".eh_frame") R 32 8
     ∷ [])
 
--- the terminator stands in the last four bytes, whatever its alignment
+-- the terminator is in the last four bytes, whatever its alignment
 frames_place :
     (full_place frames
     ≡ record {

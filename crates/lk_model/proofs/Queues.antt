@@ -22,7 +22,7 @@ turn-length {M} p past (x ∷ xs) m rest e = go (p x) e (turn-length p (past ++ 
         let sizes : suc (length rest) ≡ length (past ++ x ∷ []) + length xs = later h in
         omega arith
 
--- a member that does not pass stands as well at the end of the queue
+-- a member that does not pass is as well at the end of the queue
 pub turn-skips : {M : Type 0} (p : M → Bool) (m : M) (past ms : List M) → p m ≡ false → turn p (m ∷ past) ms ≡ turn p past (ms ++ m ∷ [])
 turn-skips p m past [] e = rw e refl
 turn-skips {M} p m past (x ∷ xs) e = go (p x) (turn-skips p m (past ++ x ∷ []) xs e)

@@ -315,7 +315,7 @@ no_terminator :
 unfolding name_at section_name symbol_name header_checks is_terminator_where signature_of piece_named asks_exec_stack section_checks_named symbol_table_checks symbol_checks_named rela_checks rela_section_checks group_checks object_checks object_fault table_checks overlap_checks_after group_checks_after section_headers_of symbols_of elf_with elf_under elf_of kind_checks kind_of relas_under relocations_in piece_bytes_in words_under class_of common_names output_name is_piece key_of table_names tail_names relocation_types relocation_type_of width_of number_of num signed64 ehdr_at shdr_at sym_at rela_at pieces_in piece_with globals_in global_with groups_in summary_in local_in
 no_terminator = (refl, refl)
 
--- the name of the section stands for an empty signature; a group with the word 0 is none
+-- the name of the section is taken for an empty signature; a group with the word 0 is none
 signatures :
     ((summary_in (elf_of (patched 540 (1 ∷ []) small))).groups ≡ (record { signature = codes ".text"; members = 1 ∷ [] }) ∷ [])
     × ((summary_in (elf_of small)).groups ≡ (record { signature = codes "_start"; members = 1 ∷ [] }) ∷ [])

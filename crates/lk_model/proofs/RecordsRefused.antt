@@ -55,7 +55,7 @@ frame_table room offset size = record larger_five {
 abbrev bad : ℕ → ℕ → Result Records RecordFault
 bad section offset = Err (Bad section offset)
 
--- another version is told before any bad place; three bytes have no version
+-- another version is reported before any bad place; three bytes have no version
 versions :
     (read_of (in_inputs 0 (bytes_of 4 9)) ≡ Err (Version 9))
     × (read_of (record larger_five { inputs = bytes_of 4 9; relocs = 1 ∷ [] }) ≡ Err (Version 9))
@@ -83,7 +83,7 @@ keys :
 unfolding read_of bytes_of
 keys = (refl, refl)
 
--- rooms that share an address, or a byte of the file: the later row; thread-local zeros may stand
+-- rooms that share an address, or a byte of the file: the later row; thread-local zeros may be
 -- over other addresses, and zeros have no place in the file
 shared_rooms :
     (read_of (in_inputs 88 (bytes_of 8 0x40103f)) ≡ bad 0 80)
@@ -236,7 +236,7 @@ slots :
 unfolding read_of bytes_of
 slots = (refl, refl, refl, refl, refl, refl, refl, refl, refl, refl)
 
--- a text that stands twice: the second; the empty one too; an unused text is read
+-- a text that is twice: the second; the empty one too; an unused text is read
 texts :
     (read_of (record larger_five { strtab = larger_five.strtab ++ codes "c" ++ 0 ∷ [] }) ≡ bad 4 109)
     × (read_of (record larger_five { strtab = larger_five.strtab ++ 0 ∷ [] }) ≡ bad 4 109)

@@ -47,7 +47,7 @@ two_strong : resolve_faults (link (object a (strong 1 start 1 ∷ strong 2 f 1 �
 unfolding link resolve_faults faults_of
 two_strong = refl
 
--- each later strong definition is told against the first, and names come in their order
+-- each later strong definition is reported against the first, and names come in their order
 three_strong :
     resolve_faults (link (object a (strong 1 start 1 ∷ strong 2 f 1 ∷ []) ∷ object b (strong 1 f 1 ∷ strong 2 start 1 ∷ []) ∷ object c (strong 1 f 1 ∷ []) ∷ []))
     ≡ fault.MultipleDefinition start a b ∷ fault.MultipleDefinition f a b ∷ fault.MultipleDefinition f a c ∷ []
@@ -66,7 +66,7 @@ merged_piece :
 unfolding link
 merged_piece = refl
 
--- a strong definition stands before common blocks
+-- a strong definition is before common blocks
 strong_and_common : (link (object a (common 1 f 8 8 ∷ []) ∷ object b (strong 1 f 1 ∷ []) ∷ [])).winners ≡ winner.Strong 1 1 ∷ []
 unfolding link
 strong_and_common = refl
@@ -199,7 +199,7 @@ common_entry : resolve_faults (link (object a (common 1 start 8 8 ∷ []) ∷ []
 unfolding link resolve_faults faults_of
 common_entry = refl
 
--- a name that the linker makes where an object refers to it; a definition of it stands before
+-- a name that the linker makes where an object refers to it; a definition of it is before
 made_end : (link (object a (undefined 1 (codes "end") ∷ []) ∷ [])).winners ≡ winner.Made ∷ []
 unfolding link
 made_end = refl

@@ -155,8 +155,8 @@ addresses_are_apart extents aligned =
     rw parts (rising_apart addr_of room_in first_address (filter takes_addresses loaded) rising)
 
 -- what the file holds ends at or below the file's end
-held_below : (rows : List SectionRow) → AllByRecursion (λ (row : SectionRow). row.offset + row.room ≤ file_end rows) (filter takes_bytes rows)
-held_below rows =
+stored_below : (rows : List SectionRow) → AllByRecursion (λ (row : SectionRow). row.offset + row.room ≤ file_end rows) (filter takes_bytes rows)
+stored_below rows =
     all_of_map
     (λ (row : SectionRow). row.offset + row.room)
     (λ end. end ≤ file_end rows)
@@ -176,5 +176,5 @@ offsets_are_apart extents aligned =
     let first = loaded_offsets_rising (thread_align extents) First first_address (filter (λ (extent : Extent). is_alloc extent.key.class) extents) (omega arith) (loaded_aligned extents aligned) in
     let second = unloaded_rising (file_end loaded) (unloaded_of extents) (all_filter (λ (extent : Extent). 0 < extent.align) (λ (extent : Extent). not (is_alloc extent.key.class)) extents aligned) in
     let from_0 = rising_from_below offset_of room_in 0 (first_address - load_base) (filter takes_bytes loaded) (omega arith) first in
-    let whole = rising_append offset_of room_in 0 (file_end loaded) (filter takes_bytes loaded) (filter takes_bytes more) (omega arith) (held_below loaded) from_0 second in
+    let whole = rising_append offset_of room_in 0 (file_end loaded) (filter takes_bytes loaded) (filter takes_bytes more) (omega arith) (stored_below loaded) from_0 second in
     rw parts (rising_apart offset_of room_in 0 (filter takes_bytes loaded ++ filter takes_bytes more) whole)

@@ -32,9 +32,9 @@ unfolding resolve found_of added_inputs needs_of winner_of relocations_in relas_
 link inputs = resolve plain_options inputs
 
 -- the faults that its references have
-faults_told : Resolved → List Fault
+faults_reported : Resolved → List Fault
 unfolding scan_faults relocations_in relas_under rela_at num number_of signed64 local_in relocation_type_of relocation_types
-faults_told r = scan_faults r
+faults_reported r = scan_faults r
 
 abbrev start : List ℕ
 start = codes "_start"
@@ -61,67 +61,67 @@ unfolding link
 text_link globals relocations others = link (referring (codes ".text") class.X globals relocations ∷ others)
 
 -- a GLOBAL reference to a name that nothing defines
-undefined_g : faults_told (text_link (undefined 3 g ∷ []) (relocation 5 3 r_x86_64_pc32 ∷ []) []) ≡ fault.Undefined g (at 5) ∷ []
-unfolding text_link faults_told
+undefined_g : faults_reported (text_link (undefined 3 g ∷ []) (relocation 5 3 r_x86_64_pc32 ∷ []) []) ≡ fault.Undefined g (at 5) ∷ []
+unfolding text_link faults_reported
 undefined_g = refl
 
--- it is told once, at its first site; a WEAK one is no fault
-undefined_once : faults_told (text_link (undefined 3 g ∷ weak_undefined 4 (codes "w") ∷ []) (relocation 5 4 r_x86_64_pc32 ∷ relocation 9 3 r_x86_64_none ∷ relocation 13 3 r_x86_64_pc32 ∷ []) []) ≡ fault.Undefined g (at 9) ∷ []
-unfolding text_link faults_told
+-- it is reported once, at its first site; a WEAK one is no fault
+undefined_once : faults_reported (text_link (undefined 3 g ∷ weak_undefined 4 (codes "w") ∷ []) (relocation 5 4 r_x86_64_pc32 ∷ relocation 9 3 r_x86_64_none ∷ relocation 13 3 r_x86_64_pc32 ∷ []) []) ≡ fault.Undefined g (at 9) ∷ []
+unfolding text_link faults_reported
 undefined_once = refl
 
 -- a LOCAL symbol of a section that is no piece
-dropped_local : faults_told (text_link [] (relocation 4 1 r_x86_64_pc32 ∷ relocation 8 2 r_x86_64_pc32 ∷ []) []) ≡ fault.DroppedLocal (at 8) ∷ []
-unfolding text_link faults_told
+dropped_local : faults_reported (text_link [] (relocation 4 1 r_x86_64_pc32 ∷ relocation 8 2 r_x86_64_pc32 ∷ []) []) ≡ fault.DroppedLocal (at 8) ∷ []
+unfolding text_link faults_reported
 dropped_local = refl
 
 -- which is none in `.eh_frame` and in what is not loaded
-frame_of_dropped : faults_told (link (referring (codes ".eh_frame") class.R [] (relocation 8 2 r_x86_64_pc32 ∷ []) ∷ [])) ≡ []
-unfolding link faults_told
+frame_of_dropped : faults_reported (link (referring (codes ".eh_frame") class.R [] (relocation 8 2 r_x86_64_pc32 ∷ []) ∷ [])) ≡ []
+unfolding link faults_reported
 frame_of_dropped = refl
 
-debug_of_dropped : faults_told (link (referring (codes ".debug_info") class.N [] (relocation 8 2 r_x86_64_64 ∷ []) ∷ [])) ≡ []
-unfolding link faults_told
+debug_of_dropped : faults_reported (link (referring (codes ".debug_info") class.N [] (relocation 8 2 r_x86_64_64 ∷ []) ∷ [])) ≡ []
+unfolding link faults_reported
 debug_of_dropped = refl
 
 -- a type without a rule
-unknown_type : faults_told (text_link [] (relocation 4 1 3 ∷ []) []) ≡ fault.Unsupported 3 (at 4) ∷ []
-unfolding text_link faults_told
+unknown_type : faults_reported (text_link [] (relocation 4 1 3 ∷ []) []) ≡ fault.Unsupported 3 (at 4) ∷ []
+unfolding text_link faults_reported
 unknown_type = refl
 
 -- a slot for what is not loaded, an offset in the thread-local block in what is, a thread form on
 -- symbol 0
-slot_in_debug : faults_told (link (referring (codes ".debug_info") class.N [] (relocation 4 1 r_x86_64_gotpcrel ∷ []) ∷ [])) ≡ fault.Unsupported r_x86_64_gotpcrel (at 4) ∷ []
-unfolding link faults_told
+slot_in_debug : faults_reported (link (referring (codes ".debug_info") class.N [] (relocation 4 1 r_x86_64_gotpcrel ∷ []) ∷ [])) ≡ fault.Unsupported r_x86_64_gotpcrel (at 4) ∷ []
+unfolding link faults_reported
 slot_in_debug = refl
 
-block_offset_in_text : faults_told (text_link (symbol 3 g stb_global stt_tls (home.Section 1) ∷ []) (relocation 4 3 r_x86_64_dtpoff64 ∷ []) []) ≡ fault.Unsupported r_x86_64_dtpoff64 (at 4) ∷ []
-unfolding text_link faults_told
+block_offset_in_text : faults_reported (text_link (symbol 3 g stb_global stt_tls (home.Section 1) ∷ []) (relocation 4 3 r_x86_64_dtpoff64 ∷ []) []) ≡ fault.Unsupported r_x86_64_dtpoff64 (at 4) ∷ []
+unfolding text_link faults_reported
 block_offset_in_text = refl
 
-thread_form_on_null : faults_told (text_link [] (relocation 4 0 r_x86_64_tpoff32 ∷ []) []) ≡ fault.Unsupported r_x86_64_tpoff32 (at 4) ∷ []
-unfolding text_link faults_told
+thread_form_on_null : faults_reported (text_link [] (relocation 4 0 r_x86_64_tpoff32 ∷ []) []) ≡ fault.Unsupported r_x86_64_tpoff32 (at 4) ∷ []
+unfolding text_link faults_reported
 thread_form_on_null = refl
 
 -- on a thread-local name a direct form is not taken, but a size, nothing and thread forms are; on one
 -- that is made or a function a thread form is not, and on one without winner it is
 thread_local_forms :
-    faults_told (text_link (symbol 3 g stb_global stt_tls (home.Section 1) ∷ []) (relocation 0 3 r_x86_64_none ∷ relocation 0 3 r_x86_64_size64 ∷ relocation 8 3 r_x86_64_tpoff32 ∷ relocation 12 3 r_x86_64_32 ∷ []) [])
+    faults_reported (text_link (symbol 3 g stb_global stt_tls (home.Section 1) ∷ []) (relocation 0 3 r_x86_64_none ∷ relocation 0 3 r_x86_64_size64 ∷ relocation 8 3 r_x86_64_tpoff32 ∷ relocation 12 3 r_x86_64_32 ∷ []) [])
     ≡ fault.Unsupported r_x86_64_32 (at 12) ∷ []
-unfolding text_link faults_told
+unfolding text_link faults_reported
 thread_local_forms = refl
 
 thread_form_on_others :
-    faults_told (text_link (strong 3 g 1 ∷ undefined 4 (codes "end") ∷ weak_undefined 5 (codes "w") ∷ []) (relocation 0 3 r_x86_64_tpoff32 ∷ relocation 4 4 r_x86_64_gottpoff ∷ relocation 8 5 r_x86_64_tpoff32 ∷ []) [])
+    faults_reported (text_link (strong 3 g 1 ∷ undefined 4 (codes "end") ∷ weak_undefined 5 (codes "w") ∷ []) (relocation 0 3 r_x86_64_tpoff32 ∷ relocation 4 4 r_x86_64_gottpoff ∷ relocation 8 5 r_x86_64_tpoff32 ∷ []) [])
     ≡ fault.Unsupported r_x86_64_tpoff32 (at 0) ∷ fault.Unsupported r_x86_64_gottpoff (at 4) ∷ []
-unfolding text_link faults_told
+unfolding text_link faults_reported
 thread_form_on_others = refl
 
 -- a thread form on a LOCAL symbol of a section with the flag of thread-local ones
 local_thread_section :
-    faults_told (link (object_in 0 a (text 1 ∷ piece_named 3 (codes ".tdata") class.Tdata ∷ []) [] [] (elf_with shf_alloc shf_tls (local 0 0 ∷ local stt_section 1 ∷ local stt_section 3 ∷ []) (relocation 4 2 r_x86_64_tpoff32 ∷ relocation 8 2 r_x86_64_pc32 ∷ [])) ∷ []))
+    faults_reported (link (object_in 0 a (text 1 ∷ piece_named 3 (codes ".tdata") class.Tdata ∷ []) [] [] (elf_with shf_alloc shf_tls (local 0 0 ∷ local stt_section 1 ∷ local stt_section 3 ∷ []) (relocation 4 2 r_x86_64_tpoff32 ∷ relocation 8 2 r_x86_64_pc32 ∷ [])) ∷ []))
     ≡ []
-unfolding link faults_told
+unfolding link faults_reported
 local_thread_section = refl
 
 -- slots in order of their first reference, each once; a slot of a LOCAL symbol has its input
@@ -161,9 +161,9 @@ copy_at_zero = refl
 
 -- the faults of imports: the copy of nothing once, a thread offset, and one that is not thread-local
 import_faults :
-    faults_told (text_link (undefined 3 (codes "empty") ∷ undefined 4 (codes "errno") ∷ undefined 5 (codes "puts") ∷ []) (relocation 0 3 r_x86_64_pc32 ∷ relocation 4 3 r_x86_64_32 ∷ relocation 8 4 r_x86_64_tpoff32 ∷ relocation 12 5 r_x86_64_tpoff32 ∷ []) (library ∷ []))
+    faults_reported (text_link (undefined 3 (codes "empty") ∷ undefined 4 (codes "errno") ∷ undefined 5 (codes "puts") ∷ []) (relocation 0 3 r_x86_64_pc32 ∷ relocation 4 3 r_x86_64_32 ∷ relocation 8 4 r_x86_64_tpoff32 ∷ relocation 12 5 r_x86_64_tpoff32 ∷ []) (library ∷ []))
     ≡ fault.CopyOfZero (codes "empty") (at 0) ∷ fault.ImportedTlsDirect (codes "errno") (at 8) ∷ fault.Unsupported r_x86_64_tpoff32 (at 12) ∷ fault.ImportedTlsDirect (codes "puts") (at 12) ∷ []
-unfolding text_link faults_told
+unfolding text_link faults_reported
 import_faults = refl
 
 -- references through LOCAL symbols are not recorded
@@ -171,7 +171,7 @@ recorded : reference_count (text_link (strong 3 g 1 ∷ []) (relocation 0 3 r_x8
 unfolding text_link
 recorded = refl
 
--- what a reference tells
+-- what a reference reports
 one_reference :
     (text_link (strong 3 g 1 ∷ []) (relocation 5 3 r_x86_64_pc32 ∷ []) []).references
     ≡ record { input = 0; section = 1; offset = 5; code = r_x86_64_pc32; addend = pos 0; through = Through.ByName 0 false } ∷ []

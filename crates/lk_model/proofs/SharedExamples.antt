@@ -128,7 +128,7 @@ shared_header_faults :
 unfolding number_of num signed64 ehdr_at shdr_at sym_at dyn_at section_headers_of symbols_of elf_with elf_under elf_of name_at header_checks kind_checks counted_entries entries_under shared_global shared_globals_in soname_of shared_summary_in shared_header_checks two_table_checks shared_name_checks soname_checks shared_checks shared_fault
 shared_header_faults = (refl, refl, refl, refl, refl, refl, refl, refl, refl, refl, refl, refl, refl, refl)
 
--- faults of the symbols of dynamic linking and of the dynamic section: each is told by the number of
+-- faults of the symbols of dynamic linking and of the dynamic section: each is reported by the number of
 -- its section, a string section by its own, and the first table of each kind counts
 two_table_faults :
     (shared_fault (patched 908 (1 ∷ 0 ∷ 0 ∷ 0 ∷ []) (patched 652 (1 ∷ 0 ∷ 0 ∷ 0 ∷ []) libc)) ≡ Some NoDynamic)

@@ -1,4 +1,4 @@
--- The laws that tie the two readings of an image together: stretches laid one after another stand at
+-- The laws that tie the two readings of an image together: stretches laid one after another are at
 -- their places, and a patch of one stretch keeps every stretch that is apart.
 use Rattle.std.proofs.Common.{◌≡◌, ◌≤◌, ◌<◌, ◌+◌, ◌-◌, ℕ, zero, suc, Bool, true, false, ◌&&◌, ◌||◌, ◌⊎◌, inl, inr, List, [], ◌∷◌, ◌++◌, length, take, drop, get_or, refl, sym, ◌∙◌, ap, arith, append_assoc, length-append, length-drop, subst, rules}
 use Rattle.std.specs.Prelude.{replicate, slice_index, nat_le, nat_lt}
@@ -7,15 +7,15 @@ use Rattle.std.proofs.Math.Seq.{drop-append_seam, take-append_seam, drop-append-
 use Rattle.std.proofs.lemmas.List.{take-append-le, drop-append-le, length-replicate, drop-take, take-take, get_or_append_left, get_or-append_right}
 use Rattle.std.proofs.lemmas.Slice.{drop-append-drop}
 use Rattle.std.proofs.lemmas.Bool.{leb-true}
-use Rattle.std.proofs.lemmas.Bool.Decides.{leb_tells}
+use Rattle.std.proofs.lemmas.Bool.Decides.{leb_reports}
 use Rattle.std.proofs.lemmas.Grind.{common_steps}
 use Rattle.std.specs.Cmp.{first_so, second_so}
 use Rattle.lk_model.specs.LinkedBytes.{patch}
-use Rattle.lk_model.specs.Stretches.{Stretch, Stands, AllStand, has_byte, end_of_all, IsLaidOut, laid_from, laid_out, rises_from, is_apart}
+use Rattle.lk_model.specs.Stretches.{Stretch, IsAt, AllAreAt, has_byte, end_of_all, IsLaidOut, laid_from, laid_out, rises_from, is_apart}
 
--- what follows a list stands right after it
-stands-after : (pre bytes rest : List ℕ) (at : ℕ) → length pre ≡ at → take (length bytes) (drop at (pre ++ (bytes ++ rest))) ≡ bytes
-stands-after pre bytes rest at e =
+-- what follows a list is right after it
+is_at-after : (pre bytes rest : List ℕ) (at : ℕ) → length pre ≡ at → take (length bytes) (drop at (pre ++ (bytes ++ rest))) ≡ bytes
+is_at-after pre bytes rest at e =
     ap (λ n. take (length bytes) (drop n (pre ++ (bytes ++ rest)))) (sym e)
     ∙ (ap (λ l. take (length bytes) l) (drop-append_seam pre (bytes ++ rest)) ∙ take-append_seam bytes rest)
 
@@ -36,22 +36,22 @@ shift pre zs bytes rest = grind (arith, common_steps)
 shift-2 : (pre zs bytes rest : List ℕ) → pre ++ ((zs ++ bytes) ++ rest) ≡ ((pre ++ zs) ++ bytes) ++ rest
 shift-2 pre zs bytes rest = grind (arith, common_steps)
 
--- stretches laid from a place on stand at their places
-stand-from : (pre : List ℕ) (place : ℕ) (ss : List Stretch) → length pre ≡ place → rises_from place ss ≡ true
-    → AllStand (pre ++ laid_from place ss) ss
+-- stretches laid from a place on are at their places
+are_at-from : (pre : List ℕ) (place : ℕ) (ss : List Stretch) → length pre ≡ place → rises_from place ss ≡ true
+    → AllAreAt (pre ++ laid_from place ss) ss
 unfolding zeros
-stand-from pre place [] e h = tt
-stand-from pre place (s ∷ ss) e h =
+are_at-from pre place [] e h = tt
+are_at-from pre place (s ∷ ss) e h =
     let low : place ≤ s.at = leb-true place s.at (first_so (nat_le place s.at) (rises_from (s.at + length s.bytes) ss) h) in
     let more : rises_from (s.at + length s.bytes) ss ≡ true = second_so (nat_le place s.at) (rises_from (s.at + length s.bytes) ss) h in
     let zs = replicate (s.at - place) 0 in
     let rest = laid_from (s.at + length s.bytes) ss in
     let gap : length (pre ++ zs) ≡ s.at = length-gap pre place s.at e low in
-    let here : Stands ((pre ++ zs) ++ (s.bytes ++ rest)) s = stands-after (pre ++ zs) s.bytes rest s.at gap in
+    let here : IsAt ((pre ++ zs) ++ (s.bytes ++ rest)) s = is_at-after (pre ++ zs) s.bytes rest s.at gap in
     let long : length ((pre ++ zs) ++ s.bytes) ≡ s.at + length s.bytes = length-append (pre ++ zs) s.bytes ∙ ap (λ n. n + length s.bytes) gap in
-    let there = stand-from ((pre ++ zs) ++ s.bytes) (s.at + length s.bytes) ss long more in (
-      subst (λ l. Stands l s) (sym (shift pre zs s.bytes rest)) here,
-      subst (λ l. AllStand l ss) (sym (shift-2 pre zs s.bytes rest)) there,
+    let there = are_at-from ((pre ++ zs) ++ s.bytes) (s.at + length s.bytes) ss long more in (
+      subst (λ l. IsAt l s) (sym (shift pre zs s.bytes rest)) here,
+      subst (λ l. AllAreAt l ss) (sym (shift-2 pre zs s.bytes rest)) there,
     )
 
 -- the length of what is laid
@@ -91,7 +91,7 @@ or-second false b h = h
 
 -- a place from a stretch's start on that the stretch does not have is past its end
 past-stretch : (s : Stretch) (k : ℕ) → s.at ≤ k → has_byte k s ≡ false → s.at + length s.bytes ≤ k
-past-stretch s k from none = grind (arith, leb_tells)
+past-stretch s k from none = grind (arith, leb_reports)
 
 -- a place in the zeros before a stretch
 in-gap : (pre : List ℕ) (place at : ℕ) (rest : List ℕ) (k : ℕ) → length pre ≡ place → place ≤ at → place ≤ k → k < at
@@ -103,7 +103,7 @@ in-gap pre place at rest k e h from below =
 
 -- a number is at another one or past it, or before it
 either-side : {P : Type 0} (a k : ℕ) → (a ≤ k → P) → (k < a → P) → P
-either-side {P} a k f g = elim (leb_tells a k) as (λ _. P) [ inl t ↦ f t.1 | inr t ↦ g t.1 ]
+either-side {P} a k f g = elim (leb_reports a k) as (λ _. P) [ inl t ↦ f t.1 | inr t ↦ g t.1 ]
 
 -- a place that no stretch has holds 0
 zero-from : (pre : List ℕ) (place : ℕ) (ss : List Stretch) → length pre ≡ place → rises_from place ss ≡ true
@@ -126,11 +126,11 @@ zero-from pre place (s ∷ ss) e h k from upto none =
     (zero-from ((pre ++ zs) ++ s.bytes) (s.at + length s.bytes) ss long more k (past-stretch s k past apart) upto-2 others))
     (λ before. subst (λ l. get_or l k 0 ≡ 0) (sym (shift pre zs s.bytes rest)) (in-gap pre place s.at (s.bytes ++ rest) k e low from before))
 
--- stretches that rise, laid one after another, stand at their places
-pub laid-out-stands : (ss : List Stretch) → rises_from 0 ss ≡ true → IsLaidOut ss (laid_out ss)
+-- stretches that rise, laid one after another, are at their places
+pub laid-out-is_at : (ss : List Stretch) → rises_from 0 ss ≡ true → IsLaidOut ss (laid_out ss)
 unfolding laid_out
-laid-out-stands ss h = record {
-  stands = stand-from [] 0 ss refl h;
+laid-out-is_at ss h = record {
+  is_at = are_at-from [] 0 ss refl h;
   zeros = λ k upto none. zero-from [] 0 ss refl h k (omega arith) upto none;
   ends = whole-length ss h;
 }
@@ -150,7 +150,7 @@ part-of-front image at from size h =
     sym (drop-take from size (take at image))
     ∙ (ap (drop from) (take-take (from + size) at image h) ∙ drop-take from size image)
 
--- what stands behind a patch, and before it
+-- what is behind a patch, and before it
 behind : (image bytes : List ℕ) (at from size : ℕ) → at + length bytes ≤ length image → at + length bytes ≤ from
     → take size (drop from (patch image at bytes)) ≡ take size (drop from image)
 behind image bytes at from size fits after =
@@ -171,12 +171,12 @@ before image bytes at from size fits close =
 -- a stretch apart from a patch and not behind it ends before it
 apart-before : (at : ℕ) (bytes : List ℕ) (t : Stretch) → is_apart (record { at = at; bytes = bytes }) t ≡ true
     → t.at < at + length bytes → t.at + length t.bytes ≤ at
-apart-before at bytes t apart close = grind (arith, leb_tells)
+apart-before at bytes t apart close = grind (arith, leb_reports)
 
 -- a patch of the bytes of one stretch keeps every stretch that is apart from it
 pub patch-keeps : (image bytes : List ℕ) (at : ℕ) (t : Stretch) → at + length bytes ≤ length image
-    → is_apart (record { at = at; bytes = bytes }) t ≡ true → Stands image t → Stands (patch image at bytes) t
-patch-keeps image bytes at t fits apart stands =
+    → is_apart (record { at = at; bytes = bytes }) t ≡ true → IsAt image t → IsAt (patch image at bytes) t
+patch-keeps image bytes at t fits apart is_at =
     either-side (at + length bytes) t.at
-    (λ after. behind image bytes at t.at (length t.bytes) fits after ∙ stands)
-    (λ close. before image bytes at t.at (length t.bytes) fits (apart-before at bytes t apart close) ∙ stands)
+    (λ after. behind image bytes at t.at (length t.bytes) fits after ∙ is_at)
+    (λ close. before image bytes at t.at (length t.bytes) fits (apart-before at bytes t apart close) ∙ is_at)

@@ -10,7 +10,7 @@ use Rattle.lk_model.specs.Views.{KeptPiece, Resolved}
 use Rattle.lk_model.specs.declared.layouts.SectionKey.{SectionKey}
 use Rattle.lk_model.specs.declared.layouts.SectionRow.{SectionRow}
 use Rattle.lk_model.proofs.InOrder.{full_keys}
-use Rattle.lk_model.proofs.KeysFound.{same_key_self, same_key_tells, any_right, in_order_has}
+use Rattle.lk_model.proofs.KeysFound.{same_key_self, same_key_reports, any_right, in_order_has}
 use Rattle.lk_model.proofs.Rising.{all_map}
 
 -- a table and its size
@@ -42,7 +42,7 @@ row_has key (row ∷ rows) has = go (same_key key row.key) refl (row_has key row
         → (list_any (same_key key) (map (λ (r : SectionRow). r.key) rows) ≡ true → list_any (λ (r : SectionRow). same_key r.key key) rows ≡ true)
         → list_any (λ (r : SectionRow). same_key r.key key) (row ∷ rows) ≡ true
     go true e rest =
-        let back : same_key row.key key ≡ true = rw (same_key_tells key row.key e) (same_key_self row.key) in
+        let back : same_key row.key key ≡ true = rw (same_key_reports key row.key e) (same_key_self row.key) in
         rw back refl
     go false e rest = or_true (same_key row.key key) (rest (rw e at has))
 

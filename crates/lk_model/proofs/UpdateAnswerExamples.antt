@@ -12,7 +12,7 @@ use Rattle.lk_report.specs.declared.faults.UsageFault.TheVariants as usage
 use Rattle.lk_report.specs.declared.statuses.Outcome.TheVariants as outcome
 use Rattle.lk_report.specs.declared.statuses.Status.{Status}
 use Rattle.lk_report.specs.declared.statuses.Status.TheVariants as status
-use Rattle.lk_model.proofs.UpdateComputed.{recorded_words, answered, read_told}
+use Rattle.lk_model.proofs.UpdateComputed.{recorded_words, answered, read_reported}
 use Rattle.lk_model.specs.declared.records.Records.{Records}
 
 -- ---- files
@@ -334,7 +334,7 @@ grown_listed =
     ++ (1 ∷ [])
     ++ zeros 15
 
--- a file with a stamp that tells its time alone
+-- a file with a stamp that reports its time alone
 abbrev file : ℕ → List ℕ → Option FileRow
 file time bytes = Some (record { bytes = bytes; stamp = Some (record { length = 0; modified = pos time }) })
 
@@ -371,8 +371,8 @@ unfolding answered before
 given ws files = answered before ws files
 
 reads : List (List ℕ) → FileMap → List (List ℕ)
-unfolding read_told before
-reads ws files = read_told before ws files
+unfolding read_reported before
+reads ws files = read_reported before ws files
 
 -- ---- nothing changed
 
@@ -429,9 +429,9 @@ listed_before = recorded_words full (two (file 1 start_listed) (file 1 short_lis
 
 redone_is_read :
     (answered listed_before update (two (file 1 start_listed) (file 2 grown_listed)) ≡ status.Done outcome.Updated)
-    × (read_told listed_before update (two (file 1 start_listed) (file 2 grown_listed)) ≡ codes "b.o" ∷ codes "a.o" ∷ [])
+    × (read_reported listed_before update (two (file 1 start_listed) (file 2 grown_listed)) ≡ codes "b.o" ∷ codes "a.o" ∷ [])
     × (answered listed_before update (two (file 1 junk) (file 2 grown_listed)) ≡ status.LinkError (fault.Input (codes "a.o") input_fault.NotElf ∷ []))
-unfolding answered read_told listed_before start_listed grown_listed
+unfolding answered read_reported listed_before start_listed grown_listed
 redone_is_read = (refl, refl, refl)
 
 -- ---- options
@@ -442,7 +442,7 @@ with_patch ws = codes "--incremental-patch=20" ∷ ws
 abbrev options : ℕ → OptionRecord
 options patch = record { entry = codes "_start"; interp = []; runpath = []; patch = patch; export_dynamic = false; dynamic = false }
 
--- another percentage: told after the inputs' faults, before the room
+-- another percentage: reported after the inputs' faults, before the room
 other_options :
     (given (with_patch update) (two (file 1 start) (file 1 short)) ≡ status.NotUpdated (cause.OptionsChanged (options 10) (options 20)))
     × (given (with_patch either) (two (file 1 start) (file 1 short)) ≡ status.Done (outcome.Full (Some (cause.OptionsChanged (options 10) (options 20)))))

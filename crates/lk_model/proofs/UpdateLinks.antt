@@ -63,7 +63,7 @@ three_inputs pieces = unread (caller 2 (code 32 16 ∷ [])) ∷ stamped new (cal
 abbrev pub three_now : List PieceInfo → Resolved
 three_now pieces = link_now three (1 ∷ []) plain_options (three_inputs pieces)
 
--- where they stand after `f` became 48 bytes long: 16 bytes are given up, and the piece goes behind the
+-- where they are after `f` became 48 bytes long: 16 bytes are given up, and the piece goes behind the
 -- others
 abbrev pub moved : Placement
 moved = record {

@@ -1,10 +1,10 @@
--- Worked examples: what stays in an update: records stand for files that are not read, inputs are found
+-- Worked examples: what stays in an update: records are taken for files that are not read, inputs are found
 -- again by their paths, common blocks by their names.
 use Rattle.std.specs.Prelude.{◌≡◌, refl, ℕ, negsuc, false, List, [], ◌∷◌, ◌++◌, codes, Some, None, Ok}
 use Rattle.lk_elf.specs.Numbers.{shf_alloc, stt_section}
 use Rattle.lk_model.proofs.ResolutionInputs.{common, elf_with, local, no_elf, object_in, plain_options, relocation, strong}
 use Rattle.lk_model.proofs.SmallLinks.{got_rows, no_slots, placed, row}
-use Rattle.lk_model.proofs.UpdateComputed.{recorded_link, link_now, redone_told, placed_told, cause_told, rewritten_told, view_told, held_told}
+use Rattle.lk_model.proofs.UpdateComputed.{recorded_link, link_now, redone_reported, placed_reported, cause_reported, rewritten_reported, view_reported, stored_reported}
 use Rattle.lk_model.proofs.UpdateLinks.{part, old, new, stamped, unread, code, caller, callee, third, three, moved}
 use Rattle.std.specs.List.{IsDistinct}
 use Rattle.lk_model.specs.FullPlace.{extent_of, rows_of}
@@ -31,10 +31,10 @@ all_read = link_now three (0 ∷ 1 ∷ 2 ∷ []) plain_options (caller 2 (code 3
 
 -- it is what it is where the second alone is read
 read_or_not :
-    (redone_told three all_read ≡ 1 ∷ [])
-    × (placed_told three all_read ≡ Ok moved)
-    × (rewritten_told three all_read moved ≡ record { input = 0; section = 1; offset = 5; code = 2; addend = negsuc 3; through = Through.ByName 1 false } ∷ [])
-unfolding recorded_link link_now redone_told placed_told rewritten_told
+    (redone_reported three all_read ≡ 1 ∷ [])
+    × (placed_reported three all_read ≡ Ok moved)
+    × (rewritten_reported three all_read moved ≡ record { input = 0; section = 1; offset = 5; code = 2; addend = negsuc 3; through = Through.ByName 1 false } ∷ [])
+unfolding recorded_link link_now redone_reported placed_reported rewritten_reported
 read_or_not = (refl, refl, refl)
 
 -- ---- another order
@@ -53,26 +53,26 @@ ordered = recorded_link plain_options (slotted ∷ starting ∷ [])
 -- the same objects the other way round: nothing is redone, no piece moves, and the slot stays with the
 -- LOCAL symbol, whose input has another number
 other_order :
-    (redone_told ordered (link_now ordered [] plain_options (starting ∷ unread slotted ∷ [])) ≡ [])
-    × (placed_told ordered (link_now ordered [] plain_options (starting ∷ unread slotted ∷ []))
+    (redone_reported ordered (link_now ordered [] plain_options (starting ∷ unread slotted ∷ [])) ≡ [])
+    × (placed_reported ordered (link_now ordered [] plain_options (starting ∷ unread slotted ∷ []))
     ≡ Ok (record {
       sections = row (codes ".text") X 0x401000 64 64 16 ∷ row (codes ".got") W 0x402000 8 64 16 ∷ row (codes ".got.plt") W 0x402040 24 64 16 ∷ [];
       pieces = placed 0 1 0 0x401010 32 16 ∷ placed 1 1 0 0x401000 16 16 ∷ [];
       slots = record { got = Some (record { owner = owner.Local 1 1; thread = false }) ∷ []; plt = [] };
     }))
-    × (cause_told ordered (link_now ordered [] plain_options (starting ∷ unread slotted ∷ [])) ≡ None)
-unfolding recorded_link link_now redone_told placed_told cause_told
+    × (cause_reported ordered (link_now ordered [] plain_options (starting ∷ unread slotted ∷ [])) ≡ None)
+unfolding recorded_link link_now redone_reported placed_reported cause_reported
 other_order = (refl, refl, refl)
 
 -- the object with the slot leaves: its slot is free, and the table keeps its size
 slot_freed :
-    placed_told ordered (link_now ordered [] plain_options (starting ∷ []))
+    placed_reported ordered (link_now ordered [] plain_options (starting ∷ []))
     ≡ Ok (record {
       sections = row (codes ".text") X 0x401000 64 64 16 ∷ row (codes ".got") W 0x402000 8 64 16 ∷ row (codes ".got.plt") W 0x402040 24 64 16 ∷ [];
       pieces = placed 0 1 0 0x401010 32 16 ∷ [];
       slots = record { got = None ∷ []; plt = [] };
     })
-unfolding recorded_link link_now placed_told
+unfolding recorded_link link_now placed_reported
 slot_freed = refl
 
 -- ---- common blocks
@@ -94,21 +94,21 @@ abbrev block : ℕ → ℕ → ℕ → ℕ → PieceRow
 block name addr size align = record { piece = piece.Common name; section = 3; addr = addr; size = size; align = align }
 
 -- `buffer` grows by the second object's symbol and goes behind `count`, which stays; a new block takes the
--- lowest hole; a block in whose place a definition stands is given up
+-- lowest hole; a block in whose place a definition is is given up
 blocks_move :
-    (placed_told blocks (link_now blocks (1 ∷ []) plain_options (owner_of_blocks ∷ stamped new (user (common 2 (codes "buffer") 24 8 ∷ common 3 (codes "flag") 4 4 ∷ [])) ∷ []))
+    (placed_reported blocks (link_now blocks (1 ∷ []) plain_options (owner_of_blocks ∷ stamped new (user (common 2 (codes "buffer") 24 8 ∷ common 3 (codes "flag") 4 4 ∷ [])) ∷ []))
     ≡ Ok (record {
       sections = row (codes ".text") X 0x401000 64 64 16 ∷ got_rows 0x402000 ++ row (codes ".bss") Bss 0x402080 64 64 16 ∷ [];
       pieces = placed 0 1 0 0x401000 16 16 ∷ placed 1 1 0 0x401010 16 16 ∷ block 1 0x402090 24 8 ∷ block 2 0x402088 4 4 ∷ block 4 0x402080 4 4 ∷ [];
       slots = no_slots;
     }))
-    × (placed_told blocks (link_now blocks (1 ∷ []) plain_options (owner_of_blocks ∷ stamped new (user (strong 2 (codes "buffer") 1 ∷ [])) ∷ []))
+    × (placed_reported blocks (link_now blocks (1 ∷ []) plain_options (owner_of_blocks ∷ stamped new (user (strong 2 (codes "buffer") 1 ∷ [])) ∷ []))
     ≡ Ok (record {
       sections = row (codes ".text") X 0x401000 64 64 16 ∷ got_rows 0x402000 ++ row (codes ".bss") Bss 0x402080 64 64 16 ∷ [];
       pieces = placed 0 1 0 0x401000 16 16 ∷ placed 1 1 0 0x401010 16 16 ∷ block 2 0x402088 4 4 ∷ [];
       slots = no_slots;
     }))
-unfolding recorded_link link_now placed_told
+unfolding recorded_link link_now placed_reported
 blocks_move = (refl, refl)
 
 -- ---- what is left over
@@ -137,12 +137,12 @@ smaller = record {
 
 -- a view knows nothing of them
 left_over :
-    (placed_told larger smaller_now ≡ Ok smaller)
-    × (cause_told larger smaller_now ≡ None)
-    × (held_told smaller
+    (placed_reported larger smaller_now ≡ Ok smaller)
+    × (cause_reported larger smaller_now ≡ None)
+    × (stored_reported smaller
     ≡ record { key = named (codes ".text") X; pieces = piece.Section 0 1 ∷ piece.Section 1 1 ∷ [] } ∷ [])
-    × (held_told smaller ≡ (view_told smaller_now).sections)
-unfolding recorded_link link_now placed_told cause_told view_told held_told
+    × (stored_reported smaller ≡ (view_reported smaller_now).sections)
+unfolding recorded_link link_now placed_reported cause_reported view_reported stored_reported
 left_over = (refl, refl, refl, refl)
 
 -- ---- lawful

@@ -39,7 +39,7 @@ is_wanted_member entry added member =
 abbrev pub with_one : List Numbered → Numbered → List Numbered
 with_one added member = added ++ member ∷ []
 
--- the items of a command before which one more input stands, with its lib group's number
+-- the items of a command before which one more input is, with its lib group's number
 abbrev pub with_front : ℕ → Numbered → List (ℕ × List Numbered) → List (ℕ × List Numbered)
 with_front zero x items = (0, x ∷ []) ∷ items
 with_front (suc n) x [] = (suc n, x ∷ []) ∷ []

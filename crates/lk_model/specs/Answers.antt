@@ -1,6 +1,6 @@
 -- The answer of a link: the first refusal in the order of the work, or that it is done (this
 -- project's own), of static links.
--- Failures of the outside and want of memory are no part of it.
+-- Failures of the outside and out of memory are no part of it.
 use Rattle.std.specs.Prelude.{ℕ, ◌+◌, ◌==◌, ◌^◌, ◌*◌, Bool, true, false, List, [], ◌∷◌, length, filter_map, find, Option, Some, None, Result, Ok, Err, nat_lt, not, ◌&&◌, ◌||◌, if◌then◌else◌, option_map}
 use Rattle.std.specs.List.{list_any, filter_map, flat_map}
 use Rattle.lk_report.specs.FileMap.{FileMap}

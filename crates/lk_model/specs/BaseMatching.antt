@@ -23,16 +23,16 @@ is_record_of x i = bytes_eq i.path x.path && i.occurrence == x.occurrence
 abbrev pub is_shared_record : InputRecord → Bool
 is_shared_record i = elim i.summary.kind [ kind.Object ↦ false | kind.Shared ↦ true ]
 
--- whether this record stands for an input: it has its path and occurrence, and what was recorded as a
+-- whether this record is taken for an input: it has its path and occurrence, and what was recorded as a
 -- shared object is no member of a lib group now, which is read as an object
-abbrev pub stands_for : Input → InputRecord → Bool
-stands_for x i = is_record_of x i && not (is_shared_record i && nat_lt 0 x.lib)
+abbrev pub refers_to : Input → InputRecord → Bool
+refers_to x i = is_record_of x i && not (is_shared_record i && nat_lt 0 x.lib)
 
 -- the recorded number of an input
 abbrev pub number_before : Records → Input → Option ℕ
-number_before base x = position (stands_for x) base.inputs
+number_before base x = position (refers_to x) base.inputs
 
--- whether the record of a number is the one that stands for an input
+-- whether the record of a number is the one that is taken for an input
 abbrev pub is_its_record : Records → ℕ → Input → Bool
 is_its_record base n x = elim (number_before base x) [ None ↦ false | Some m ↦ m == n ]
 

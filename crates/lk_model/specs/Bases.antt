@@ -119,7 +119,7 @@ placement_in image = option_map (λ (r : Records). r.placement) (result_ok (reco
 abbrev pub greatest_image : ℕ
 greatest_image = 2 ^ 29
 
--- whether the seal stands at its place
+-- whether the seal is at its place
 abbrev pub is_sealed : List ℕ → Bool
 is_sealed image = bytes_eq (take (length seal) (drop seal_offset image)) seal
 

@@ -8,7 +8,7 @@ use Rattle.std.specs.Ordering.{int_eq}
 use Rattle.std.specs.Str.{bytes_eq}
 use Rattle.lk_report.specs.FileMap.{FileMap, FileRow}
 use Rattle.lk_report.specs.declared.stamps.Stamp.{Stamp}
-use Rattle.lk_model.specs.BaseMatching.{number_before, stands_for}
+use Rattle.lk_model.specs.BaseMatching.{number_before, refers_to}
 use Rattle.lk_model.specs.FullPlace.{pieces_in}
 use Rattle.lk_model.specs.Inputs.{inputs_of}
 use Rattle.lk_model.specs.Numbered.{is_number_in}
@@ -31,11 +31,11 @@ use Rattle.lk_model.specs.declared.summaries.PieceInfo.{PieceInfo}
 
 -- what an earlier image records of an input
 abbrev pub record_for : Records → Input → Option InputRecord
-record_for base x = find (stands_for x) base.inputs
+record_for base x = find (refers_to x) base.inputs
 
 -- whether an earlier image has a record of an input
 abbrev pub is_recorded : Records → Input → Bool
-is_recorded base x = list_any (stands_for x) base.inputs
+is_recorded base x = list_any (refers_to x) base.inputs
 
 -- two stamps are both there and the same
 abbrev pub same_stamp : Option Stamp → Option Stamp → Bool
@@ -65,7 +65,7 @@ changed_of base inputs = numbers_where (λ n x. is_changed base x) inputs
 
 -- ---- what an earlier image kept
 
--- what a record tells of a section of an input
+-- what a record reports of a section of an input
 abbrev pub info_before : Records → ℕ → ℕ → Option PieceInfo
 info_before base input section =
     option_and_then (λ (i : InputRecord). find (λ (p : PieceInfo). p.section == section) i.summary.pieces) (slice_get base.inputs input)
@@ -126,14 +126,14 @@ abbrev pub same_item : SequenceItem → SequenceItem → Bool
 same_item a b =
     bytes_eq a.path b.path && (a.occurrence == b.occurrence) && (a.section == b.section) && (a.size == b.size) && (a.align == b.align)
 
--- the path and the occurrence of an input by its number, as a record tells them and as a link does
+-- the path and the occurrence of an input by its number, as a record reports them and as a link does
 abbrev pub origin_before : Records → ℕ → Option (List ℕ × ℕ)
 origin_before base n = option_map (λ (i : InputRecord). (i.path, i.occurrence)) (slice_get base.inputs n)
 
 abbrev pub origin_now : Resolved → ℕ → Option (List ℕ × ℕ)
 origin_now r n = option_map (λ (x : Input). (x.path, x.occurrence)) (slice_get r.inputs n)
 
--- a piece as it stands in a sequence
+-- a piece as it is in a sequence
 abbrev pub sequence_item : (ℕ → Option (List ℕ × ℕ)) → KeptPiece → Option SequenceItem
 sequence_item origin k = elim k.piece [
   | piece.Section i s ↦ option_map (λ (x : List ℕ × ℕ). record { path = x.0; occurrence = x.1; section = s; size = k.size; align = k.align }) (origin i)
@@ -141,7 +141,7 @@ sequence_item origin k = elim k.piece [
   | piece.Copy n ↦ None
 ]
 
--- the pieces that go to a sequence section, in the order in which they stand in it
+-- the pieces that go to a sequence section, in the order in which they are in it
 abbrev pub sequence_list : (ℕ → Option (List ℕ × ℕ)) → SectionKey → List KeptPiece → List SequenceItem
 sequence_list origin key pieces = filter_map (sequence_item origin) (sequence_of (is_numbered_array key) (pieces_in key pieces))
 

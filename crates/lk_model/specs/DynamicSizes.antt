@@ -22,7 +22,7 @@ use Rattle.lk_model.specs.Winners.{is_in_object}
 abbrev pub plt_entry_size : ℕ
 plt_entry_size = 16
 
--- the number of a name, where its winner stands in an object
+-- the number of a name, where its winner is in an object
 abbrev pub name_in_object : Resolved → List ℕ → Option ℕ
 name_in_object r name =
     option_and_then (λ n. option_and_then (λ (w : Winner). if is_in_object w then Some n else None) (slice_get r.winners n)) (number_among r.names name)

@@ -12,7 +12,7 @@ use Rattle.lk_model.specs.Forms.{r_x86_64_tpoff64}
 use Rattle.lk_model.specs.Numbered.{is_number_in}
 use Rattle.lk_model.specs.Views.{Resolved}
 
--- the types that stand in images alone
+-- the types that are in images alone
 abbrev pub r_x86_64_copy : ℕ
 r_x86_64_copy = 5
 

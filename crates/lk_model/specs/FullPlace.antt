@@ -1,6 +1,6 @@
 -- This project's own: where a link that is made anew puts everything. Addresses are those of a program
 -- that is loaded where it was linked for (gABI "Program Loading"), and may be greater than a field
--- holds: `memory_of` tells of it.
+-- holds: `memory_of` reports of it.
 use Rattle.std.specs.Prelude.{ℕ, Bool, true, false, if◌then◌else◌, List, [], ◌∷◌, ◌++◌, Option, Some, None, ◌+◌, ◌-◌, ◌^◌, max, min, length, take, map, fold, filter, filter_map, find, option_map, not, ◌||◌}
 use Rattle.std.specs.List.{enumerate_from}
 use Rattle.lk_model.specs.Amounts.{round_up}
@@ -20,7 +20,7 @@ use Rattle.lk_model.specs.declared.layouts.SlotTable.{SlotTable}
 abbrev pub load_base : ℕ
 load_base = 0x400000
 
--- the address of the first section; the headers stand below it
+-- the address of the first section; the headers are below it
 abbrev pub first_address : ℕ
 first_address = 0x401000
 
@@ -88,7 +88,7 @@ abbrev pub is_thread : Class → Bool
 is_thread class = same_class class Tdata || same_class class Tbss
 
 -- the greater alignment of the thread-local sections (gABI "Thread-Local Storage"), or 0: the one that
--- comes first stands at a multiple of it
+-- comes first is at a multiple of it
 abbrev pub thread_align : List Extent → ℕ
 thread_align extents =
     greatest (map (λ (extent : Extent). extent.align) (filter (λ (extent : Extent). is_thread extent.key.class) extents))
@@ -151,7 +151,7 @@ rows_of extents =
     let loaded = loaded_rows (thread_align extents) First first_address (filter (λ (extent : Extent). is_alloc extent.key.class) extents) in
     loaded ++ unloaded_rows (file_end loaded) (filter (λ (extent : Extent). not (is_alloc extent.key.class)) extents)
 
--- the offset of a piece in a patched section: a terminator stands in the reserved bytes
+-- the offset of a piece in a patched section: a terminator is in the reserved bytes
 abbrev pub offset_in_patched : SectionRow → List KeptPiece → KeptPiece → ℕ
 offset_in_patched row earlier piece =
     let least = least_of row.key in
@@ -206,7 +206,7 @@ abbrev pub tail_start : Placement → ℕ
 tail_start place = file_end place.sections
 
 -- the memory that a placement takes, from the load base to the greatest end of a loaded room; what is
--- greater than a field holds is told as the greatest that it holds
+-- greater than a field holds is reported as the greatest that it holds
 unfoldable pub memory_of : Placement → ℕ
 memory_of place =
     let ends = map (λ (row : SectionRow). row.addr + row.room) (filter (λ (row : SectionRow). is_alloc row.key.class) place.sections) in

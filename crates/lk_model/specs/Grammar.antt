@@ -31,7 +31,7 @@ pub data Valued : Type 0 where
   Patch : Valued
   ThreadCount : Valued
 
--- the words that stand alone
+-- the words that are alone
 pub data Flag : Type 0 where
   ExportDynamic : Flag
   InMode : (mode : Mode) → Flag
@@ -49,7 +49,7 @@ pub data Meaning : Type 0 where
   Apart : (option : Valued) → Meaning
   Joined : (option : Valued) (value : List ℕ) → Meaning
 
--- the words that are options as they stand
+-- the words that are options as they are
 unfoldable pub whole_words : List (List ℕ × Meaning)
 whole_words =
     (codes "-o", Apart Output)
@@ -94,12 +94,12 @@ is_path (b ∷ bs) = not (b == 45)
 abbrev pub holds_zero : List ℕ → Bool
 holds_zero text = list_any (λ b. b == 0) text
 
--- a word that is no option as it stands
+-- a word that is no option as it is
 abbrev pub joined_meaning : List ℕ → Option (List ℕ × Valued) → Meaning
 joined_meaning word (Some row) = Joined row.1 (drop (length row.0) word)
 joined_meaning word None = if is_path word then Path else Meaningless
 
--- a word by its row among the options that stand as they are
+-- a word by its row among the options that are as they are
 abbrev pub word_meaning : List ℕ → Option (List ℕ × Meaning) → Meaning
 word_meaning word (Some row) = row.1
 word_meaning word None = joined_meaning word (find (λ (row : List ℕ × Valued). starts_with nat_eq word row.0) beginnings)
@@ -205,7 +205,7 @@ open_after open_lib other = open_lib
 abbrev pub open_lib_in : List Phrase → Option ℕ
 open_lib_in phrases = fold open_after None phrases
 
--- the checks of a word that stands alone, after those phrases
+-- the checks of a word that is alone, after those phrases
 abbrev pub flag_checks : List Phrase → ℕ → Flag → List (Bool × UsageFault)
 flag_checks earlier number StartLib = (is_some (open_lib_in earlier), NestedLib number) ∷ []
 flag_checks earlier number EndLib = (is_none (open_lib_in earlier), NoLibOpen number) ∷ []

@@ -1,5 +1,5 @@
--- This project's own: what a link is beside its addresses: which pieces stand together in an output
--- section, what each name means, and what a dynamic linker is told. All links of one command and its
+-- This project's own: what a link is beside its addresses: which pieces are together in an output
+-- section, what each name means, and what a dynamic linker is reported. All links of one command and its
 -- files have the same view, however they were made: it is read from the image alone.
 use Rattle.std.specs.Prelude.{◌≡◌, ℕ, Bool, List, [], map, drop, filter, filter_map, zip, find, Option, Some, None, option_map, Ok, Err, slice_get}
 use Rattle.std.specs.Str.{bytes_eq}
@@ -23,8 +23,8 @@ use Rattle.lk_model.specs.declared.records.NameRow.{NameRow}
 use Rattle.lk_model.specs.declared.records.Records.{Records}
 
 -- an output section that holds a piece, with its pieces in adding order and by section, then commons and
--- copies in order of names. The order in which they stand is not told.
-pub record HeldSection : Type 0 where
+-- copies in order of names. The order in which they are is not reported.
+pub record SectionPieces : Type 0 where
   pub key : SectionKey
   pub pieces : List PieceId
 
@@ -33,7 +33,7 @@ pub record HeldSection : Type 0 where
 -- winner's input; the sonames that it needs; the names of its dynamic symbols; the symbol at which the
 -- program begins.
 pub record View : Type 0 where
-  pub sections : List HeldSection
+  pub sections : List SectionPieces
   pub names : List NameRow
   pub needed : List (List ℕ)
   pub dynamic_names : List (List ℕ)
@@ -45,25 +45,25 @@ is_entry entry row = bytes_eq row.name entry
 
 -- ---- of an image
 
--- the key of the output section in which a placed piece stands
-abbrev pub standing_key : Placement → PieceRow → Option SectionKey
-standing_key place row = option_map (λ (s : SectionRow). s.key) (slice_get place.sections row.section)
+-- the key of the output section in which a placed piece is
+abbrev pub key_of_piece : Placement → PieceRow → Option SectionKey
+key_of_piece place row = option_map (λ (s : SectionRow). s.key) (slice_get place.sections row.section)
 
--- whether a placed piece stands in this output section
-abbrev pub stands_in : Placement → SectionKey → PieceRow → Bool
-stands_in place key row = is_some_with (same_key key) (standing_key place row)
+-- whether a placed piece is in this output section
+abbrev pub is_in : Placement → SectionKey → PieceRow → Bool
+is_in place key row = is_some_with (same_key key) (key_of_piece place row)
 
--- an output section with the pieces that stand in it
-abbrev pub standing_section : Placement → SectionKey → HeldSection
-standing_section place key = record {
+-- an output section with the pieces that are in it
+abbrev pub section_of_key : Placement → SectionKey → SectionPieces
+section_of_key place key = record {
   key = key;
-  pieces = map (λ (row : PieceRow). row.piece) (filter (stands_in place key) place.pieces);
+  pieces = map (λ (row : PieceRow). row.piece) (filter (is_in place key) place.pieces);
 }
 
 -- the output sections of a placement that hold a piece; those without one, which an update leaves over,
 -- do not count
-unfoldable pub sections_held : Placement → List HeldSection
-sections_held place = map (standing_section place) (each_once (filter_map (standing_key place) place.pieces))
+unfoldable pub sections_with_pieces_of : Placement → List SectionPieces
+sections_with_pieces_of place = map (section_of_key place) (each_once (filter_map (key_of_piece place) place.pieces))
 
 -- the names of an image's dynamic symbols, without the null symbol
 abbrev pub dynamic_names_in : List ℕ → List (List ℕ)
@@ -72,7 +72,7 @@ dynamic_names_in image = drop 1 (map (λ (s : LoadedSymbol). s.name) (dynamic_sy
 -- the view that records and an image's dynamic section tell
 abbrev pub view_with : List ℕ → Records → View
 view_with image r = record {
-  sections = sections_held r.placement;
+  sections = sections_with_pieces_of r.placement;
   names = r.names;
   needed = needed_in image;
   dynamic_names = dynamic_names_in image;
@@ -86,28 +86,28 @@ view_in image = elim (records_of_image image) [ Err c ↦ None | Ok r ↦ Some (
 -- ---- of what resolution finds
 
 -- an output section with the pieces that resolution sends to it
-abbrev pub held_section : Resolved → SectionKey → HeldSection
-held_section r key = record {
+abbrev pub section_pieces : Resolved → SectionKey → SectionPieces
+section_pieces r key = record {
   key = key;
   pieces = map (λ (k : KeptPiece). k.piece) (filter (λ (k : KeptPiece). same_key k.key key) r.kept);
 }
 
 -- the output sections that a link's pieces go to
-unfoldable pub sections_kept : Resolved → List HeldSection
-sections_kept r = map (held_section r) (each_once (map (λ (k : KeptPiece). k.key) r.kept))
+unfoldable pub sections_kept : Resolved → List SectionPieces
+sections_kept r = map (section_pieces r) (each_once (map (λ (k : KeptPiece). k.key) r.kept))
 
 -- the names with their winners
-abbrev pub names_meant : Resolved → List NameRow
-names_meant r = map name_row (zip r.names r.winners)
+abbrev pub name_rows : Resolved → List NameRow
+name_rows r = map name_row (zip r.names r.winners)
 
 -- the view of a link of these inputs
 unfoldable pub view_of : Resolved → View
 view_of r = record {
   sections = sections_kept r;
-  names = names_meant r;
+  names = name_rows r;
   needed = needed_names r;
   dynamic_names = map (name_of r) (dynamic_names r);
-  entry = find (is_entry r.options.entry) (names_meant r);
+  entry = find (is_entry r.options.entry) (name_rows r);
 }
 
 -- ---- the law

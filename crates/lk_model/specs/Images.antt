@@ -1,4 +1,4 @@
--- An image as a whole (this project's own; gABI "Object Files"): the headers, the seal, what stands in
+-- An image as a whole (this project's own; gABI "Object Files"): the headers, the seal, what is in
 -- the rooms of the output sections, the tail, and the section headers, which end it.
 use Rattle.std.specs.Prelude.{ℕ, ◌+◌, ◌-◌, ◌==◌, Bool, true, false, List, [], ◌∷◌, ◌++◌, length, map, filter, filter_map, Option, Some, None, if◌then◌else◌, codes, replicate, nat_le, nat_lt, length, fold}
 use Rattle.std.specs.List.{flat_map, enumerate_from, zip, filter_map}
@@ -48,7 +48,7 @@ abbrev pub end_stretches : SectionRow → List Stretch
 end_stretches row =
     if same_key row.key eh_frame then stretch (row.offset + (row.room - 4)) (replicate 4 0) ∷ [] else []
 
--- what stands in the room of a row: its pieces, its table, its fill; nothing in the file for zeros
+-- what is in the room of a row: its pieces, its table, its fill; nothing in the file for zeros
 abbrev pub row_stretches : Resolved → Placement → ℕ × SectionRow → List Stretch
 row_stretches r place (n, row) =
     if in_file row.key.class then
@@ -72,7 +72,7 @@ stretches_with r place parts =
 unfoldable pub stretches_of : Resolved → Placement → List Stretch
 stretches_of r place = stretches_with r place (tail_parts r place)
 
--- a stretch put before the first that stands after it
+-- a stretch put before the first that is after it
 abbrev pub put_in_order : List Stretch → Stretch → List Stretch
 put_in_order [] s = s ∷ []
 put_in_order (x ∷ xs) s = if nat_le x.at s.at then x ∷ put_in_order xs s else s ∷ x ∷ xs

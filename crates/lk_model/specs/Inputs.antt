@@ -71,19 +71,19 @@ missing_of command files = filter_map (missing_in command files) (input_words co
 -- ---- inputs
 
 -- a word whose file is there, with its lib group, its path and the file
-pub record Found : Type 0 where
+pub record FoundInput : Type 0 where
   pub lib : ℕ
   pub word : Word
   pub path : List ℕ
   pub file : FileRow
 
 -- a word with the file of its path
-abbrev pub found_at : FileMap → ℕ × Word → List ℕ → Option Found
+abbrev pub found_at : FileMap → ℕ × Word → List ℕ → Option FoundInput
 found_at files row path =
     option_map (λ (file : FileRow). record { lib = row.0; word = row.1; path = path; file = file }) (files path)
 
 -- a word with its file
-abbrev pub found_in : Command → FileMap → ℕ × Word → Option Found
+abbrev pub found_in : Command → FileMap → ℕ × Word → Option FoundInput
 found_in command files row = option_and_then (found_at files row) (path_of command files row.1)
 
 -- a shared object by its first bytes
@@ -101,7 +101,7 @@ summary_by true path elf = shared_summary_in path elf
 summary_by false path elf = summary_in elf
 
 -- an input as it was read
-abbrev pub input_with : ℕ → Found → Elf → Input
+abbrev pub input_with : ℕ → FoundInput → Elf → Input
 input_with occurrence found elf = record {
   path = found.path;
   occurrence = occurrence;
@@ -117,7 +117,7 @@ abbrev pub count_of : List ℕ → List (List ℕ) → ℕ
 count_of path paths = length (filter (bytes_eq path) paths)
 
 -- the inputs after those with these paths
-unfoldable pub inputs_after : List (List ℕ) → List Found → List Input
+unfoldable pub inputs_after : List (List ℕ) → List FoundInput → List Input
 inputs_after earlier [] = []
 inputs_after earlier (found ∷ others) =
     input_with (count_of found.path earlier) found (elf_of found.file.bytes)

@@ -26,7 +26,7 @@ use Rattle.lk_model.specs.declared.summaries.Kind.{Kind}
 use Rattle.lk_model.specs.declared.summaries.Kind.TheVariants as kind
 use Rattle.lk_model.specs.declared.summaries.PieceInfo.{PieceInfo}
 
--- numbers that stand for a choice; none for a number outside its list
+-- numbers that are taken for a choice; none for a number outside its list
 abbrev pub class_of_number : ℕ → Option Class
 class_of_number n = slice_get (R ∷ X ∷ W ∷ WX ∷ Tdata ∷ Tbss ∷ Bss ∷ N ∷ []) n
 
@@ -236,7 +236,7 @@ module _ (texts : ℕ → Option (List ℕ)) (rows : List SectionRow) where
       given_then (read_inputs_from (n + 1) more rest) (λ is left.
       Ok (i ∷ is, left)))
 
--- what the section tells: the options, the rows of the output sections, the inputs
+-- what the section reports: the options, the rows of the output sections, the inputs
 pub record ReadInputs : Type 0 where
   pub options : OptionRecord
   pub sections : List SectionRow
@@ -264,7 +264,7 @@ abbrev pub placed_fault : ℕ → Result ReadInputs ℕ → Result ReadInputs Re
 placed_fault size (Err left) = Err (BadPlace (size - left))
 placed_fault size (Ok x) = Ok x
 
--- the section of inputs, with the section of texts that its texts stand in
+-- the section of inputs, with the section of texts that its texts are in
 unfoldable pub inputs_read : List ℕ → List ℕ → Result ReadInputs RecordsBad
 inputs_read bytes strtab =
     if nat_le 4 (length bytes) && not (num bytes 0 4 == 1) then Err (OtherVersion (num bytes 0 4))

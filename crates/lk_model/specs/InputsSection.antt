@@ -67,7 +67,7 @@ input_head i =
     ∷ Long (stamp_length i.stamp) ∷ Long (stamp_time i.stamp) ∷ Short (length i.summary.pieces) ∷ Short (length i.summary.globals)
     ∷ Short (length i.summary.groups) ∷ Short (bit i.summary.exec_stack) ∷ []
 
--- what stands in a piece's record for a section that is not kept
+-- what is in a piece's record for a section that is not kept
 abbrev pub no_section : ℕ
 no_section = 0xffffffff
 

@@ -1,4 +1,4 @@
--- How keys and pieces are told apart and looked up in a placement (this project's own).
+-- How keys and pieces are distinguished and looked up in a placement (this project's own).
 use Rattle.std.specs.Prelude.{ℕ, ◌+◌, ◌-◌, ◌==◌, Bool, true, false, ◌&&◌, nat_eq, List, [], ◌∷◌, Option, Some, None, find, position, option_map}
 use Rattle.std.specs.Str.{bytes_eq}
 use Rattle.lk_model.specs.SectionKeys.{same_key}

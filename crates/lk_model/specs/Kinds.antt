@@ -15,7 +15,7 @@ use Rattle.lk_model.specs.Checks.{first_fault}
 abbrev pub is_archive : List ℕ → Bool
 is_archive bytes = starts_with nat_eq bytes (codes "!<arch>") || starts_with nat_eq bytes (codes "!<thin>")
 
--- the magic bytes stand in front
+-- the magic bytes are in front
 abbrev pub has_magic : List ℕ → Bool
 has_magic bytes = starts_with nat_eq bytes elfmag
 

@@ -94,7 +94,7 @@ abbrev pub holes_are_fillable : Placement → ℕ → SectionRow → Bool
 holes_are_fillable place number row =
     not (is_patched row.key) || list_all (λ (hole : Hole). nat_le (least_of row.key) hole.length) (holes_of place number)
 
--- a piece of a sequence stands where it stands in the sequence of its section's pieces
+-- a piece of a sequence is where it is in the sequence of its section's pieces
 abbrev pub is_in_sequence : List KeptPiece → ℕ → KeptPiece → PieceRow → SectionRow → Bool
 is_in_sequence kept number piece placed row =
     is_patched row.key
@@ -138,13 +138,13 @@ pub record Lawful (r : Resolved) (place : Placement) : Type 0 where
   pub in_section : AllByRecursion (λ (p : Placed). RowOf place p.1.1 (λ row. same_key row.key p.1.0.key)) (placed_of r place)
   -- it lies in the room
   pub in_room : AllByRecursion (λ (piece : PieceRow). RowOf place piece (λ row. nat_le row.addr piece.addr && nat_le (piece.addr + piece.size) (row.addr + row.room))) place.pieces
-  -- it stands at a multiple of its alignment; a terminator stands where its section ends
+  -- it is at a multiple of its alignment; a terminator is where its section ends
   pub aligned : AllByRecursion (λ (p : Placed). IsTrue (p.1.0.terminator || p.1.1.addr % p.1.1.align == 0)) (placed_of r place)
   -- no two pieces share a byte
   pub pieces_share_nothing : Pairs (λ a b. IsTrue (pieces_apart a b)) place.pieces
   -- every hole of a patched section can be filled
   pub fillable : AllByRecursion (λ (entry : ℕ × SectionRow). IsTrue (holes_are_fillable place entry.0 entry.1)) (enumerate_from 0 place.sections)
-  -- an empty piece of a patched section stands at its start, and a terminator in its reserved end
+  -- an empty piece of a patched section is at its start, and a terminator in its reserved end
   pub empties : AllByRecursion (λ (p : Placed). RowOf place p.1.1 (λ row. not (is_patched row.key) || not (p.1.0.size == 0) || empty_is_at row p.1.0 p.1.1)) (placed_of r place)
   -- no piece covers the reserved end
   pub end_is_free : AllByRecursion (λ (piece : PieceRow). RowOf place piece (λ row. nat_le (piece.addr + piece.size + reserved_of row.key) (row.addr + row.room))) place.pieces
@@ -162,7 +162,7 @@ pub record Lawful (r : Resolved) (place : Placement) : Type 0 where
   pub addresses_share_nothing : Pairs (λ a b. IsTrue (addresses_apart a b)) (filter (λ (row : SectionRow). is_alloc row.key.class && not (same_class row.key.class Tbss)) place.sections)
   -- the rooms that the file holds share no byte of it
   pub offsets_share_nothing : Pairs (λ a b. IsTrue (offsets_apart a b)) (filter (λ (row : SectionRow). in_file row.key.class) place.sections)
-  -- the sections are different ones and stand in their order
+  -- the sections are different ones and are in their order
   pub distinct : IsDistinct same_key (map (λ (row : SectionRow). row.key) place.sections)
   pub ordered : in_order (map (λ (row : SectionRow). row.key) place.sections) ≡ map (λ (row : SectionRow). row.key) place.sections
   -- addresses and offsets are those that the rows' rooms and alignments give, from the first segment on

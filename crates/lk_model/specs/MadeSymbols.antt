@@ -58,15 +58,15 @@ fixed_made place =
     ∷ []
 
 -- the first allocated output section of a name that holds a kept piece
-abbrev pub held_row : Resolved → Placement → List ℕ → Option SectionRow
-held_row r place name =
+abbrev pub row_with_piece : Resolved → Placement → List ℕ → Option SectionRow
+row_with_piece r place name =
     find (λ row. bytes_eq row.key.name name && not (class_number row.key.class == class_number N) && list_any (λ (p : KeptPiece). same_key p.key row.key) r.kept) place.sections
 
 -- the value of `__start_X` and `__stop_X`
 abbrev pub bound_value : Resolved → Placement → List ℕ → ℕ
 bound_value r place name =
-    if starts_with nat_eq name (codes "__start_") then start_of (held_row r place (drop 8 name))
-    else (if starts_with nat_eq name (codes "__stop_") then end_of (held_row r place (drop 7 name)) else 0)
+    if starts_with nat_eq name (codes "__start_") then start_of (row_with_piece r place (drop 8 name))
+    else (if starts_with nat_eq name (codes "__stop_") then end_of (row_with_piece r place (drop 7 name)) else 0)
 
 -- the value of a name that the linker makes
 abbrev pub made_value : Resolved → Placement → List ℕ → ℕ

@@ -73,7 +73,7 @@ owner_eq (owner.Local i s) (owner.Global m) = false
 abbrev pub got_key_eq : GotKey → GotKey → Bool
 got_key_eq a b = owner_eq a.owner b.owner && beq a.thread b.thread
 
--- the references that stand in loaded pieces, which alone need something
+-- the references that are in loaded pieces, which alone need something
 abbrev pub loaded_references : List Sited → List Ref
 loaded_references sited = flat_map (λ (x : Sited). cond (is_loaded x.0.class) (x.1 ∷ []) []) sited
 

@@ -14,7 +14,7 @@ pub use Rattle.lk_model.specs.Checks.{first_fault}
 use Rattle.lk_model.specs.Checks.{is_some_with}
 use Rattle.lk_model.specs.Elf.{lies_in, numbered, section_at, section_name, symbol_table, symbol_name, elf_of}
 use Rattle.lk_model.specs.Kinds.{kind_checks}
-use Rattle.lk_model.specs.Objects.{binding_of, type_of, is_local, numbered_symbols, symbol_of_rela, code_of_rela, relas_under, rela_sections_of, is_piece_in, group_sections, words_under, members_under, signature_of}
+use Rattle.lk_model.specs.Objects.{binding_of, type_of, is_local, numbered_symbols, r_symbol_of, r_type_of, relas_under, rela_sections_of, is_piece_in, group_sections, words_under, members_under, signature_of}
 use Rattle.lk_model.specs.Pieces.{is_piece, is_table_name, is_tail_name}
 use Rattle.lk_model.specs.RelocationTypes.{width_of}
 use Rattle.lk_model.specs.Views.{Elf}
@@ -168,12 +168,12 @@ is_symbol_table elf n = is_some_with (λ (table : ℕ × Shdr). table.0 == n) (s
 
 -- a field that does not fit in its target
 abbrev pub is_outside : ℕ → Rela → Bool
-is_outside size rela = nat_lt size (rela.r_offset + width_of (code_of_rela rela))
+is_outside size rela = nat_lt size (rela.r_offset + width_of (r_type_of rela))
 
 -- the checks of a relocation: of entry k of section n, on a target
 unfoldable pub rela_checks : Elf → ℕ → Shdr → ℕ × Rela → List (Bool × InputFault)
 rela_checks elf n target row =
-    (not (nat_lt (symbol_of_rela row.1) (length elf.symbols)), BadRela n row.0)
+    (not (nat_lt (r_symbol_of row.1) (length elf.symbols)), BadRela n row.0)
     ∷ (is_outside target.sh_size row.1, BadRela n row.0)
     ∷ (target.sh_type == sht_nobits, BadRela n row.0)
     ∷ []
@@ -204,7 +204,7 @@ share_a_byte a a_width b b_width =
 
 -- the fields of two relocations share a byte
 abbrev pub share_field : Rela → Rela → Bool
-share_field a b = share_a_byte a.r_offset (width_of (code_of_rela a)) b.r_offset (width_of (code_of_rela b))
+share_field a b = share_a_byte a.r_offset (width_of (r_type_of a)) b.r_offset (width_of (r_type_of b))
 
 -- the relocations of a target with the number of their section and entry
 abbrev pub sites_in : Elf → ℕ → List (ℕ × ℕ × Rela)

@@ -19,7 +19,7 @@ class_of code flags =
     else if has_flag flags shf_write then W
     else R
 
--- the names that stand for all names that go on from them after a dot
+-- the names that are taken for all names that go on from them after a dot
 unfoldable pub common_names : List (List ℕ)
 common_names =
     codes ".text" ∷ codes ".rodata" ∷ codes ".data" ∷ codes ".bss" ∷ codes ".init_array" ∷ codes ".fini_array"

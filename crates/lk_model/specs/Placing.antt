@@ -46,7 +46,7 @@ is_staying r redone row p = elim p [
   | piece.Copy n ↦ list_any (is_as_before (piece.Copy n) row) r.kept
 ]
 
--- whether a piece stands in a patched section; those of sequences are placed anew
+-- whether a piece is in a patched section; those of sequences are placed anew
 abbrev pub is_in_patched : Placement → PieceRow → Bool
 is_in_patched place row = is_some_with (λ (s : SectionRow). is_patched s.key) (slice_get place.sections row.section)
 
@@ -63,7 +63,7 @@ staying_pieces base r redone = filter_map (staying_piece base r redone) base.pla
 
 -- ---- what is placed
 
--- where the pieces placed so far stand, those that stay among them, and the pieces that found no room
+-- where the pieces placed so far are, those that stay among them, and the pieces that found no room
 pub record Placing : Type 0 where
   pub placed : List PieceRow
   pub unplaced : List KeptPiece
@@ -72,7 +72,7 @@ pub record Placing : Type 0 where
 abbrev pub fitted_offset : Placement → ℕ → SectionRow → KeptPiece → Option ℕ
 fitted_offset so_far number row k = first_fit (holes_of so_far number) (least_of row.key) k.size k.align
 
--- the offset of a piece in a patched section: an empty piece asks for no hole, and a terminator stands in
+-- the offset of a piece in a patched section: an empty piece asks for no hole, and a terminator is in
 -- the reserved bytes
 abbrev pub updated_in_patched : Placement → ℕ → SectionRow → KeptPiece → Option ℕ
 updated_in_patched so_far number row k = elim k.terminator [
@@ -92,7 +92,7 @@ abbrev pub with_place : Placing → KeptPiece → ℕ → SectionRow → Option 
 with_place so_far k number row None = record so_far { unplaced = so_far.unplaced ++ k ∷ [] }
 with_place so_far k number row (Some at) = record so_far { placed = so_far.placed ++ placed_at k number row at ∷ [] }
 
--- a placement in which these pieces stand
+-- a placement in which these pieces are
 abbrev pub placement_with : List SectionRow → SlotTable → List PieceRow → Placement
 placement_with rows slots pieces = record { sections = rows; pieces = pieces; slots = slots }
 

@@ -1,5 +1,5 @@
 -- This project's own: a search that goes round a list of members again and again, and lists each
--- member that is wanted when its turn comes. The members not listed yet stand in a queue, in cyclic
+-- member that is wanted when its turn comes. The members not listed yet are in a queue, in cyclic
 -- order after the one listed last: those behind it, then those before it.
 use Rattle.std.specs.Prelude.{◌≡◌, ℕ, zero, suc, Bool, cond, List, [], ◌∷◌, ◌++◌, length, Option, Some, None}
 

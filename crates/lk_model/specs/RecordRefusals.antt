@@ -32,7 +32,7 @@ share_no_address row earlier = not (has_own_addresses row) || not (has_own_addre
 abbrev pub share_no_file_byte : SectionRow → SectionRow → Bool
 share_no_file_byte row earlier = not (in_file row.key.class) || not (in_file earlier.key.class) || offsets_apart row earlier
 
--- whether a row can stand beside an earlier one: another key, and rooms apart
+-- whether a row can be beside an earlier one: another key, and rooms apart
 abbrev pub row_is_beside : SectionRow → SectionRow → Bool
 row_is_beside row earlier = not (same_key row.key earlier.key) && share_no_address row earlier && share_no_file_byte row earlier
 
@@ -74,14 +74,14 @@ abbrev pub place_is_good : List SectionRow → List PieceRow → Option PieceRow
 place_is_good rows before None = true
 place_is_good rows before (Some piece) = is_good_place rows before piece
 
--- whether a placement tells two pieces of one input apart, which it knows by their section numbers
-abbrev pub are_told_apart : ReadPiece → ReadPiece → Bool
-are_told_apart a b = not (a.info.section == b.info.section) || (is_none a.placed && is_none b.placed)
+-- whether a placement reports two pieces of one input apart, which it knows by their section numbers
+abbrev pub are_reported_apart : ReadPiece → ReadPiece → Bool
+are_reported_apart a b = not (a.info.section == b.info.section) || (is_none a.placed && is_none b.placed)
 
 -- whether a piece of an input may follow these placed pieces, and these pieces of the input
 unfoldable pub is_good_piece : List SectionRow → List PieceRow → List ReadPiece → ReadPiece → Bool
 is_good_piece rows before earlier piece =
-    is_field_power piece.info.align && place_is_good rows before piece.placed && list_all (are_told_apart piece) earlier
+    is_field_power piece.info.align && place_is_good rows before piece.placed && list_all (are_reported_apart piece) earlier
 
 -- ---- symbols
 

@@ -86,7 +86,7 @@ slots_head_forms = Num32 ∷ Num32 ∷ Num32 ∷ Num32 ∷ []
 abbrev pub slot_forms : List Form
 slot_forms = Num32 ∷ Num32 ∷ Num32 ∷ Num32 ∷ []
 
--- what stands in place of an input in the slot of a name
+-- what is in place of an input in the slot of a name
 abbrev pub no_input : ℕ
 no_input = 0xffffffff
 

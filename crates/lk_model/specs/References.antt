@@ -11,10 +11,10 @@ use Rattle.lk_model.specs.declared.records.Reference.{Reference}
 use Rattle.lk_model.specs.declared.summaries.Contributions.{Contributions}
 use Rattle.lk_model.specs.declared.summaries.Global.{Global}
 use Rattle.lk_model.specs.declared.summaries.InputSummary.{InputSummary}
-use Rattle.lk_model.specs.Objects.{relocations_in, symbol_of_rela, code_of_rela}
+use Rattle.lk_model.specs.Objects.{relocations_in, r_symbol_of, r_type_of}
 use Rattle.lk_model.specs.Views.{Elf, Input, KeptPiece, Ref, Through}
 
--- a reference with the output section of the piece that it stands in
+-- a reference with the output section of the piece that it is in
 abbrev pub Sited : Type 0
 Sited = SectionKey × Ref
 
@@ -35,9 +35,9 @@ reference_of names summary input section rela = record {
   input = input;
   section = section;
   offset = rela.r_offset;
-  code = code_of_rela rela;
+  code = r_type_of rela;
   addend = rela.r_addend;
-  through = through_of names summary (symbol_of_rela rela);
+  through = through_of names summary (r_symbol_of rela);
 }
 
 -- the references of a section of an input, which goes to this output section, in the order of its

@@ -1,4 +1,4 @@
--- This project's own: where the pieces of an output section stand in it, and how many bytes are
+-- This project's own: where the pieces of an output section are in it, and how many bytes are
 -- reserved for it. Offsets and sizes are in bytes.
 use Rattle.std.specs.Prelude.{ℕ, Bool, true, false, if◌then◌else◌, List, [], ◌∷◌, ◌++◌, ◌+◌, ◌-◌, ◌*◌, ◌/◌, ◌==◌, ◌&&◌, ◌||◌, nat_eq, nat_le, nat_lt, max, length, drop, fold, filter, take_while, codes}
 use Rattle.std.specs.List.{list_all, starts_with, prefix_len}
@@ -20,7 +20,7 @@ step_to least cursor align =
     let next = round_up cursor align in
     if is_fillable least (next - cursor) then next else round_up (cursor + least) align
 
--- where a piece of a patched section stands, where the pieces before it end at the cursor
+-- where a piece of a patched section is, where the pieces before it end at the cursor
 abbrev pub patched_offset : ℕ → ℕ → KeptPiece → ℕ
 patched_offset least cursor piece = if piece.size == 0 then 0 else step_to least cursor piece.align
 
@@ -39,7 +39,7 @@ patched_room patch least reserved n =
     let room = room_of patch (n + reserved) in
     if is_fillable least (room - reserved - n) then room else room + 64
 
--- where a piece of a sequence stands, where the pieces before it end at the cursor
+-- where a piece of a sequence is, where the pieces before it end at the cursor
 abbrev pub sequence_offset : ℕ → KeptPiece → ℕ
 sequence_offset cursor piece = round_up cursor piece.align
 
@@ -81,12 +81,12 @@ put_by_number sorted piece =
 abbrev pub by_number : List KeptPiece → List KeptPiece
 by_number pieces = fold put_by_number [] pieces
 
--- the pieces of a sequence in the order in which they stand, from their order of adding
+-- the pieces of a sequence in the order in which they are, from their order of adding
 abbrev pub sequence_of : Bool → List KeptPiece → List KeptPiece
 sequence_of false pieces = pieces
 sequence_of true pieces = by_number pieces
 
--- the pieces of a sequence that stand before a piece: `all` are those of its section, `earlier` those
+-- the pieces of a sequence that are before a piece: `all` are those of its section, `earlier` those
 -- that were added before it
 abbrev pub before_in_sequence : Bool → List KeptPiece → List KeptPiece → KeptPiece → List KeptPiece
 before_in_sequence false all earlier piece = earlier

@@ -52,7 +52,7 @@ is_to_tls found elf x = elim x.through [
 ]
 
 -- whether what a reference of this file goes to has no thread-local meaning: a winner that is not
--- thread-local, or a LOCAL symbol that neither is nor stands in a thread-local section. A name without
+-- thread-local, or a LOCAL symbol that neither is nor is in a thread-local section. A name without
 -- winner has any meaning.
 abbrev pub is_to_no_tls : Found → Elf → Ref → Bool
 is_to_no_tls found elf x = elim x.through [
@@ -124,7 +124,7 @@ faults_at found elf (key, x) =
 abbrev pub faults_in : Found → Elf → List Sited → List Fault
 faults_in found elf sited = flat_map (faults_at found elf) sited
 
--- whether a fault tells of this name that it is undefined, or that its copy is empty
+-- whether a fault reports of this name that it is undefined, or that its copy is empty
 abbrev pub is_undefined_of : List ℕ → Fault → Bool
 is_undefined_of name (fault.Undefined other site) = bytes_eq other name
 is_undefined_of name _ = false
@@ -133,27 +133,27 @@ abbrev pub is_empty_copy_of : List ℕ → Fault → Bool
 is_empty_copy_of name (fault.CopyOfZero other site) = bytes_eq other name
 is_empty_copy_of name _ = false
 
--- whether a fault is one that is told once per name, and was told of its name
-abbrev pub is_told : List Fault → Fault → Bool
-is_told told (fault.Undefined name site) = list_any (is_undefined_of name) told
-is_told told (fault.CopyOfZero name site) = list_any (is_empty_copy_of name) told
-is_told told _ = false
+-- whether a fault is one that is reported once per name, and was reported of its name
+abbrev pub is_reported : List Fault → Fault → Bool
+is_reported reported (fault.Undefined name site) = list_any (is_undefined_of name) reported
+is_reported reported (fault.CopyOfZero name site) = list_any (is_empty_copy_of name) reported
+is_reported reported _ = false
 
--- the faults told with one more, where it is not told yet
+-- the faults reported with one more, where it is not reported yet
 abbrev pub with_fault : List Fault → Fault → List Fault
-with_fault told f = cond (is_told told f) told (told ++ f ∷ [])
+with_fault reported f = cond (is_reported reported f) reported (reported ++ f ∷ [])
 
--- faults in their order, with those told once that are told once per name
-abbrev pub told_once : List Fault → List Fault
-told_once faults = fold with_fault [] faults
+-- faults in their order, with those reported once that are reported once per name
+abbrev pub reported_once : List Fault → List Fault
+reported_once faults = fold with_fault [] faults
 
--- the faults of the references that stand in the inputs
+-- the faults of the references that are in the inputs
 abbrev pub faults_among : Found → List Input → List Sited → List Fault
 faults_among found inputs sited = flat_map (λ (x : Sited). elim (slice_get inputs x.1.input) [ None ↦ [] | Some i ↦ faults_at found i.elf x ]) sited
 
 -- the faults of the references of a link
 unfoldable pub scan_faults : Resolved → List Fault
-scan_faults r = told_once (faults_among (found_in r) r.inputs (sited_of r.names r.inputs r.kept))
+scan_faults r = reported_once (faults_among (found_in r) r.inputs (sited_of r.names r.inputs r.kept))
 
 -- how many references an image records
 abbrev pub reference_count : Resolved → ℕ

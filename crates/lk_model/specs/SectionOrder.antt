@@ -20,7 +20,7 @@ pub data Segment : Type 0 where
   Third : Segment
   NotLoaded : Segment
 
--- where the sections of a class stand
+-- where the sections of a class are
 abbrev pub segment_of : Class → Segment
 segment_of R = First
 segment_of X = Second

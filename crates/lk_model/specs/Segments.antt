@@ -24,8 +24,8 @@ memory_end rows =
     greatest (map (λ (row : SectionRow). row.addr + row.room) (filter (λ (row : SectionRow). not (same_class row.key.class Tbss)) rows))
 
 -- where the last of these rooms that the file holds ends in memory, or 0
-abbrev pub held_end : List SectionRow → ℕ
-held_end rows = greatest (map (λ (row : SectionRow). row.addr + row.room) (filter (λ (row : SectionRow). in_file row.key.class) rows))
+abbrev pub stored_end : List SectionRow → ℕ
+stored_end rows = greatest (map (λ (row : SectionRow). row.addr + row.room) (filter (λ (row : SectionRow). in_file row.key.class) rows))
 
 -- where the first segment ends: at the first section's address where it has no section
 abbrev pub first_segment_end : Placement → ℕ
@@ -49,14 +49,14 @@ third_segment_end place = memory_end (segment_rows Third place)
 
 -- a header of a segment that is loaded at its place in the file, from an address to two ends
 abbrev pub load_header : ℕ → ℕ → ℕ → ℕ → Phdr
-load_header flags address held end =
+load_header flags address stored end =
     record {
       p_type = pt_load;
       p_flags = flags;
       p_offset = address - load_base;
       p_vaddr = address;
       p_paddr = address;
-      p_filesz = held - address;
+      p_filesz = stored - address;
       p_memsz = end - address;
       p_align = page;
     }
@@ -74,13 +74,13 @@ third_flags place =
 abbrev pub second_load : Placement → List SectionRow → List Phdr
 second_load place [] = []
 second_load place (row ∷ rows) =
-    load_header (pf_r + pf_x) (second_segment_start place) (held_end (row ∷ rows)) (memory_end (row ∷ rows)) ∷ []
+    load_header (pf_r + pf_x) (second_segment_start place) (stored_end (row ∷ rows)) (memory_end (row ∷ rows)) ∷ []
 
 -- the third segment
 abbrev pub third_load : Placement → Phdr
 third_load place =
     let rows = segment_rows Third place in
-    load_header (third_flags place) (third_segment_start place) (held_end rows) (memory_end rows)
+    load_header (third_flags place) (third_segment_start place) (stored_end rows) (memory_end rows)
 
 -- the header of one section
 abbrev pub section_header_of : ℕ → ℕ → SectionRow → Phdr
@@ -140,7 +140,7 @@ abbrev pub tls_start : Placement → ℕ
 tls_start place = start_of_tls (tls_segment place)
 
 -- where it ends, its size rounded up to its alignment (psABI "Thread-Local Storage": the thread pointer
--- stands there), and 0 without it
+-- is there), and 0 without it
 abbrev pub tls_end : Placement → ℕ
 tls_end place = end_of_tls (tls_segment place)
 

@@ -112,7 +112,7 @@ shared_globals_in elf =
 abbrev pub soname_under : Elf → ℕ × Shdr → Option (List ℕ)
 soname_under elf table = option_and_then (name_at elf table.1.sh_link) (first_with_tag dt_soname (entries_under elf table.1))
 
--- the last part of a path, which stands after its last slash
+-- the last part of a path, which is after its last slash
 abbrev pub last_part : List ℕ → List ℕ
 last_part path = after_last (λ b. b == 47) path
 

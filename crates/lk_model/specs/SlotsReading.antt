@@ -1,5 +1,5 @@
 -- The reading of `.gnu_incremental_got_plt` with its refusals (this project's own): the GOT slots, the
--- PLT entries, and the commons and copies, which stand in `.bss`.
+-- PLT entries, and the commons and copies, which are in `.bss`.
 use Rattle.std.specs.Prelude.{ℕ, ◌==◌, ◌&&◌, Bool, true, false, List, [], ◌++◌, length, drop, Option, Some, None, option_map, Result, Ok, nat_lt, if◌then◌else◌, codes, position, flat_map}
 use Rattle.lk_elf.specs.Fields.{num}
 use Rattle.lk_model.specs.CheckedInputs.{rows_of_input}
@@ -80,7 +80,7 @@ made_with rows names (kind, (name, (addr, (size, (align, _))))) =
 unfoldable pub is_good_made : List SectionRow → List PieceRow → PieceRow → Bool
 is_good_made rows before piece = is_field_power piece.align && is_good_place rows before piece
 
--- what the section tells: the slots and entries, and the rows of commons and copies
+-- what the section reports: the slots and entries, and the rows of commons and copies
 pub record ReadSlots : Type 0 where
   pub slots : SlotTable
   pub made : List PieceRow

@@ -36,7 +36,7 @@ touched_in_room touched row = elim (in_file row.key.class) [
   | false ↦ []
 ]
 
--- a row put before the first that stands after it in the file
+-- a row put before the first that is after it in the file
 abbrev pub put_by_offset : List SectionRow → SectionRow → List SectionRow
 put_by_offset [] row = row ∷ []
 put_by_offset (x ∷ xs) row = if nat_le x.offset row.offset then x ∷ put_by_offset xs row else row ∷ x ∷ xs

@@ -1,19 +1,19 @@
--- An image as stretches of bytes that stand at their places (this project's own).
+-- An image as stretches of bytes that are at their places (this project's own).
 use Rattle.std.specs.Prelude.{◌≡◌, ℕ, ◌+◌, ◌-◌, ◌<◌, Bool, true, false, nat_le, nat_lt, ◌&&◌, List, [], ◌∷◌, ◌++◌, length, take, drop, slice_index, replicate, IsTrue}
 use Rattle.std.specs.List.{list_any}
 
--- bytes and the place in the file where they stand
+-- bytes and the place in the file where they are
 pub record Stretch : Type 0 where
   pub at : ℕ
   pub bytes : List ℕ
 
--- a stretch stands at its place in a file
-abbrev pub Stands : List ℕ → Stretch → Type 0
-Stands image s = take (length s.bytes) (drop s.at image) ≡ s.bytes
+-- a stretch is at its place in a file
+abbrev pub IsAt : List ℕ → Stretch → Type 0
+IsAt image s = take (length s.bytes) (drop s.at image) ≡ s.bytes
 
-abbrev pub AllStand : List ℕ → List Stretch → Type 0
-AllStand image [] = Unit {0}
-AllStand image (s ∷ ss) = Stands image s × AllStand image ss
+abbrev pub AllAreAt : List ℕ → List Stretch → Type 0
+AllAreAt image [] = Unit {0}
+AllAreAt image (s ∷ ss) = IsAt image s × AllAreAt image ss
 
 -- whether a stretch has the byte at a place
 abbrev pub has_byte : ℕ → Stretch → Bool
@@ -25,10 +25,10 @@ end_of_all [] = 0
 end_of_all (s ∷ []) = s.at + length s.bytes
 end_of_all (s ∷ t ∷ ss) = end_of_all (t ∷ ss)
 
--- a file is these stretches: each stands at its place, every other byte is 0, and the file ends with
+-- a file is these stretches: each is at its place, every other byte is 0, and the file ends with
 -- the last one
 pub record IsLaidOut (stretches : List Stretch) (image : List ℕ) : Type 0 where
-  pub stands : AllStand image stretches
+  pub is_at : AllAreAt image stretches
   pub zeros : (k : ℕ) → k < length image → list_any (has_byte k) stretches ≡ false → slice_index image k ≡ 0
   pub ends : length image ≡ end_of_all stretches
 

@@ -44,7 +44,7 @@ tabled_value place code address = if code == stt_tls then minus address (tls_sta
 abbrev pub name_visibility : Resolved → ℕ → ℕ
 name_visibility r n = elim (slice_get r.visibilities n) [ None ↦ stv_default | Some visibility ↦ visibility ]
 
--- the entry of a definition in an input; `text` is where its name stands, `n` its name's number
+-- the entry of a definition in an input; `text` is where its name is, `n` its name's number
 unfoldable pub definition_entry : Resolved → Placement → ℕ → ℕ → ℕ → Global → Sym
 definition_entry r place text n input g = record {
   st_name = text;

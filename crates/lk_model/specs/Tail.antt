@@ -49,7 +49,7 @@ tail_parts r place =
     let parts = record_parts (records_of r place) in
     parts ++ record { name = codes ".shstrtab"; bytes = table_bytes (table_of (header_names place parts)) } ∷ []
 
--- a part with the place in the file where it stands
+-- a part with the place in the file where it is
 pub record PlacedPart : Type 0 where
   pub part : Part
   pub offset : ℕ
@@ -64,7 +64,7 @@ abbrev pub parts_end : ℕ → List Part → ℕ
 parts_end at [] = at
 parts_end at (p ∷ ps) = parts_end (round_up at 8 + length p.bytes) ps
 
--- where the section headers stand
+-- where the section headers are
 abbrev pub headers_offset : Placement → List Part → ℕ
 headers_offset place parts = round_up (parts_end (tail_start place) parts) 8
 

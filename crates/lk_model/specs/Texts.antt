@@ -1,5 +1,5 @@
 -- Tables of texts, as string sections are (gABI "String Table"): each text ends with a zero, offset 0
--- is the empty text, and each distinct text stands once in order of first use.
+-- is the empty text, and each distinct text is once in order of first use.
 use Rattle.std.specs.Prelude.{ℕ, ◌+◌, Bool, true, false, List, [], ◌∷◌, ◌++◌, length, fold, take, drop, Option, Some, None, nat_eq, nat_lt, if◌then◌else◌, ◌==◌, position, slice_index, ◌-◌, ◌||◌}
 use Rattle.std.specs.List.{list_any, flat_map}
 use Rattle.std.specs.Str.{bytes_eq}
@@ -12,7 +12,7 @@ with_text table t = if list_any (bytes_eq t) table then table else table ++ t �
 abbrev pub table_of : List (List ℕ) → List (List ℕ)
 table_of texts = fold with_text ([] ∷ []) texts
 
--- where a text stands in the bytes of a table; the end of the table for one that it does not have
+-- where a text is in the bytes of a table; the end of the table for one that it does not have
 abbrev pub offset_from : ℕ → List (List ℕ) → List ℕ → ℕ
 offset_from at [] t = at
 offset_from at (x ∷ xs) t = if bytes_eq t x then at else offset_from (at + length x + 1) xs t

@@ -1,5 +1,5 @@
 -- The reading of `.gnu_incremental_strtab` with its refusals (this project's own; gABI "String Table"):
--- a text for each zero; no text stands twice, and nothing follows the last zero.
+-- a text for each zero; no text is twice, and nothing follows the last zero.
 use Rattle.std.specs.Prelude.{ℕ, ◌+◌, ◌==◌, Bool, List, [], length, drop, Result, Ok, Err, if◌then◌else◌, bytes_eq, count_by}
 use Rattle.std.specs.List.{list_any, before_first}
 use Rattle.lk_model.specs.RecordForms.{Given}

@@ -1,6 +1,6 @@
 -- The answer of a link through the whole order of work and of refusals (this project's own): the words,
 -- the earlier image, the inputs, resolution, the references, the placement. Failures of the outside and
--- want of memory are no part of it.
+-- out of memory are no part of it.
 use Rattle.std.specs.Prelude.{ℕ, ◌^◌, not, Bool, true, false, List, [], ◌++◌, length, map, filter, filter_map, Option, Some, None, option_map, Result, Ok, Err, slice_get}
 use Rattle.std.specs.List.{range_with_len, sum_by}
 use Rattle.lk_report.specs.FileMap.{FileMap, FileRow}

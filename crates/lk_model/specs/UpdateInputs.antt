@@ -1,5 +1,5 @@
 -- This project's own: what an update knows of its inputs, and what resolution finds of them. An input
--- that is read is what its file holds. Of any other the earlier image's records stand for the file:
+-- that is read is what its file holds. Of any other the earlier image's records are taken for the file:
 -- its summary, its references through names, and the slots of its LOCAL symbols; its bytes are not
 -- looked at.
 use Rattle.std.specs.Prelude.{ℕ, ◌+◌, ◌==◌, ◌&&◌, true, false, List, [], ◌∷◌, ◌++◌, map, flat_map, filter, filter_map, Option, Some, None, option_map, option_and_then, slice_get}
@@ -11,14 +11,14 @@ use Rattle.lk_model.specs.BaseMatching.{number_before, input_now, name_now}
 use Rattle.lk_model.specs.Changes.{record_for}
 use Rattle.lk_model.specs.Elf.{elf_of}
 use Rattle.lk_model.specs.Finding.{found_of}
-use Rattle.lk_model.specs.Inputs.{Found, found_in, input_with, input_words, count_of}
+use Rattle.lk_model.specs.Inputs.{FoundInput, found_in, input_with, input_words, count_of}
 use Rattle.lk_model.specs.KeptPieces.{is_input_piece, name_pieces}
 use Rattle.lk_model.specs.NeedsOf.{needs_of}
 use Rattle.lk_model.specs.Numbered.{is_number_in}
 use Rattle.lk_model.specs.References.{Sited, sited_at, references_of}
 use Rattle.lk_model.specs.Resolving as resolving
 use Rattle.lk_model.specs.Resolving.{paths_of}
-use Rattle.lk_model.specs.ScanFaults.{faults_among, told_once}
+use Rattle.lk_model.specs.ScanFaults.{faults_among, reported_once}
 use Rattle.lk_model.specs.Views.{Input, KeptPiece, Ref, Through, Resolved}
 use Rattle.lk_model.specs.declared.commands.Command.{Command}
 use Rattle.lk_model.specs.declared.layouts.GotKey.{GotKey}
@@ -39,7 +39,7 @@ abbrev pub nothing_known : InputSummary
 nothing_known = record { kind = kind.Object; soname = []; exec_stack = false; pieces = []; globals = []; groups = [] }
 
 -- an input that is looked up and not read, with a summary from elsewhere
-abbrev pub looked_up : ℕ → Found → InputSummary → Input
+abbrev pub looked_up : ℕ → FoundInput → InputSummary → Input
 looked_up occurrence found summary = record {
   path = found.path;
   occurrence = occurrence;
@@ -51,20 +51,20 @@ looked_up occurrence found summary = record {
 }
 
 -- an input that is not read: what the earlier image records of it
-abbrev pub unread_input : Records → ℕ → Found → Input
+abbrev pub unread_input : Records → ℕ → FoundInput → Input
 unread_input base occurrence found =
     let x = looked_up occurrence found nothing_known in
     elim (record_for base x) [ None ↦ x | Some i ↦ looked_up occurrence found i.summary ]
 
 -- an input by its number, where these are read
-abbrev pub update_input : Records → List ℕ → ℕ → ℕ → Found → Input
+abbrev pub update_input : Records → List ℕ → ℕ → ℕ → FoundInput → Input
 update_input base reads n occurrence found = elim (is_number_in reads n) [
   | true ↦ input_with occurrence found (elf_of found.file.bytes)
   | false ↦ unread_input base occurrence found
 ]
 
 -- the inputs from a number on, after those with these paths
-unfoldable pub update_inputs_after : Records → List ℕ → ℕ → List (List ℕ) → List Found → List Input
+unfoldable pub update_inputs_after : Records → List ℕ → ℕ → List (List ℕ) → List FoundInput → List Input
 update_inputs_after base reads n earlier [] = []
 update_inputs_after base reads n earlier (found ∷ others) =
     update_input base reads n (count_of found.path earlier) found
@@ -160,4 +160,4 @@ update_resolved base reads options inputs =
 -- the faults of the references of an update, in adding order
 unfoldable pub update_scan_faults : Records → List ℕ → Resolved → List Fault
 update_scan_faults base reads r =
-    told_once (faults_among (resolving.found_in r) r.inputs (update_sited base reads r.names r.inputs (filter is_input_piece r.kept)))
+    reported_once (faults_among (resolving.found_in r) r.inputs (update_sited base reads r.names r.inputs (filter is_input_piece r.kept)))

@@ -1,5 +1,5 @@
 -- Which definition a name means. Strong before weak, and a common block that yields to a strong
--- definition and stands before a weak one, are the gABI's ("Symbol Table", "Common Symbols"); the rest
+-- definition and is before a weak one, are the gABI's ("Symbol Table", "Common Symbols"); the rest
 -- is this project's own.
 use Rattle.std.specs.Prelude.{ℕ, Bool, true, false, ◌&&◌, cond, ◌==◌, max, min, List, [], ◌∷◌, filter, find, fold, Option, Some, None, option_map}
 use Rattle.lk_elf.specs.Numbers.{stt_tls, stv_default}
@@ -80,7 +80,7 @@ import_symbol cs (winner.Common size align) = None
 import_symbol cs winner.Made = None
 import_symbol cs winner.Nothing = None
 
--- whether a winner is thread-local, as its symbol tells
+-- whether a winner is thread-local, as its symbol reports
 abbrev pub is_tls_winner : Contributions → Winner → Bool
 is_tls_winner cs w = elim (symbol_of_winner cs w) [ None ↦ false | Some g ↦ g.code == stt_tls ]
 
@@ -88,6 +88,6 @@ is_tls_winner cs w = elim (symbol_of_winner cs w) [ None ↦ false | Some g ↦ 
 abbrev pub is_nothing : Winner → Bool
 is_nothing w = elim w [ winner.Nothing ↦ true | winner.Strong i s ↦ false | winner.Common n a ↦ false | winner.Weak i s ↦ false | winner.Made ↦ false | winner.Import i s ↦ false ]
 
--- whether a winner stands in an object
+-- whether a winner is in an object
 abbrev pub is_in_object : Winner → Bool
 is_in_object w = elim w [ winner.Nothing ↦ false | winner.Strong i s ↦ true | winner.Common n a ↦ true | winner.Weak i s ↦ true | winner.Made ↦ false | winner.Import i s ↦ false ]

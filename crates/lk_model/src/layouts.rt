@@ -1,4 +1,4 @@
-//! Where everything stands: output sections, pieces, slots, and the parts of a plan.
+//! Where everything is: output sections, pieces, slots, and the parts of a plan.
 
 ghost use Rattle.std.specs.Prelude.{◌≡◌, IfOk};
 
@@ -149,7 +149,7 @@ pub struct SlotTable {
     pub plt: NumberList,
 }
 
-/// Where all sections, pieces and slots of an image stand. Pieces of inputs come first, in adding
+/// Where all sections, pieces and slots of an image are. Pieces of inputs come first, in adding
 /// order and by section number, then commons and copies in order of names.
 #[derive(PartialEq, Eq, Debug, Drop)]
 pub struct Placement {
@@ -173,7 +173,7 @@ pub struct Numbers {
     pub tls_end: u64,
 }
 
-/// What stands in the holes of a section.
+/// What is in the holes of a section.
 #[derive(Clone, Copy, PartialEq, Eq, Debug)]
 pub enum FillKind {
     /// Zeros.
@@ -200,7 +200,7 @@ pub struct Span {
     pub length: u64,
 }
 
-/// What a link is to write: where everything stands, the ranges, and the references whose fields
+/// What a link is to write: where everything is, the ranges, and the references whose fields
 /// change.
 #[derive(PartialEq, Eq, Debug, Drop)]
 pub struct Plan {

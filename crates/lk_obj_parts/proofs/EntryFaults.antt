@@ -53,8 +53,8 @@ pub parts : (elf : Elf) (n : ℕ) (header : Shdr) → first_fault (rela_section_
 unfolding rela_section_checks head_checks
 parts elf n header = fault_joined (head_checks elf n header) (entry_checks elf n header (is_piece_in elf header.sh_info) (section_at elf header.sh_info))
 
-pub head_told : (elf : Elf) (n : ℕ) (header : Shdr) (f : InputFault) → first_fault (head_checks elf n header) ≡ Some f → first_fault (rela_section_checks elf (n, header)) ≡ Some f
-head_told elf n header f e =
+pub head_reported : (elf : Elf) (n : ℕ) (header : Shdr) (f : InputFault) → first_fault (head_checks elf n header) ≡ Some f → first_fault (rela_section_checks elf (n, header)) ≡ Some f
+head_reported elf n header f e =
     parts elf n header
     ∙ ap (λ (o : Option InputFault). or_else o (first_fault (entry_checks elf n header (is_piece_in elf header.sh_info) (section_at elf header.sh_info)))) e
 
@@ -81,15 +81,15 @@ found-none : (elf : Elf) (n : ℕ) (header target : Shdr) (piece : Bool) → ent
 found-none elf n header target true h = entries elf n header target ∙ h
 found-none elf n header target false h = refl
 
--- where no entry has a fault, none is told, whether or not the target is a piece
+-- where no entry has a fault, none is reported, whether or not the target is a piece
 pub no_entry_fault : (elf : Elf) (n : ℕ) (header target : Shdr) → first_fault (head_checks elf n header) ≡ None → section_at elf header.sh_info ≡ Some target → entry_faults elf.bytes header (length elf.symbols) n target 0 (entry_count elf.bytes header) ≡ None → first_fault (rela_section_checks elf (n, header)) ≡ None
 no_entry_fault elf n header target e s h =
     rest elf n header e
     ∙ ap (λ o. first_fault (entry_checks elf n header (is_piece_in elf header.sh_info) o)) s
     ∙ found-none elf n header target (is_piece_in elf header.sh_info) h
 
-pub entries_fault_told : (elf : Elf) (n : ℕ) (header target : Shdr) → first_fault (head_checks elf n header) ≡ None → is_piece_in elf header.sh_info ≡ true → section_at elf header.sh_info ≡ Some target → first_fault (rela_section_checks elf (n, header)) ≡ entry_faults elf.bytes header (length elf.symbols) n target 0 (entry_count elf.bytes header)
-entries_fault_told elf n header target e t s =
+pub entries_fault_reported : (elf : Elf) (n : ℕ) (header target : Shdr) → first_fault (head_checks elf n header) ≡ None → is_piece_in elf header.sh_info ≡ true → section_at elf header.sh_info ≡ Some target → first_fault (rela_section_checks elf (n, header)) ≡ entry_faults elf.bytes header (length elf.symbols) n target 0 (entry_count elf.bytes header)
+entries_fault_reported elf n header target e t s =
     rest elf n header e
     ∙ ap (λ b. first_fault (entry_checks elf n header b (section_at elf header.sh_info))) t
     ∙ ap (λ o. first_fault (entry_checks elf n header true o)) s

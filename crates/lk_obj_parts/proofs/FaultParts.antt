@@ -3,13 +3,13 @@ use Rattle.std.specs.Prelude.{◌≡◌, refl, Bool, true, false, List, [], ◌�
 use Rattle.lk_model.specs.Checks.{first_fault}
 
 -- it is that of the first list
-pub first_told : {F : Type 0} (xs ys : List (Bool × F)) (f : F) → first_fault xs ≡ Some f → first_fault (xs ++ ys) ≡ Some f
-first_told [] ys f e = cc
-first_told ((true, g) ∷ xs) ys f e = e
-first_told ((false, g) ∷ xs) ys f e = first_told xs ys f e
+pub first_reported : {F : Type 0} (xs ys : List (Bool × F)) (f : F) → first_fault xs ≡ Some f → first_fault (xs ++ ys) ≡ Some f
+first_reported [] ys f e = cc
+first_reported ((true, g) ∷ xs) ys f e = e
+first_reported ((false, g) ∷ xs) ys f e = first_reported xs ys f e
 
 -- or else that of the second
-pub then_told : {F : Type 0} (xs ys : List (Bool × F)) → first_fault xs ≡ None → first_fault (xs ++ ys) ≡ first_fault ys
-then_told [] ys e = refl
-then_told ((true, g) ∷ xs) ys e = cc
-then_told ((false, g) ∷ xs) ys e = then_told xs ys e
+pub then_reported : {F : Type 0} (xs ys : List (Bool × F)) → first_fault xs ≡ None → first_fault (xs ++ ys) ≡ first_fault ys
+then_reported [] ys e = refl
+then_reported ((true, g) ∷ xs) ys e = cc
+then_reported ((false, g) ∷ xs) ys e = then_reported xs ys e

@@ -29,13 +29,13 @@ parts : (elf : Elf) (n : ℕ) (header : Shdr) → first_fault (section_checks el
 unfolding section_checks_named place_checks name_checks
 parts elf n header = fault_joined (place_checks elf.bytes n header) (name_checks n header (section_name elf n))
 
-pub place_told : (bytes : List ℕ) (file : Ehdr) (sections : List Shdr) (n : ℕ) (header : Shdr) (f : InputFault) → first_fault (place_checks bytes n header) ≡ Some f → first_fault (section_checks (elf_from bytes file sections []) (n, header)) ≡ Some f
-place_told bytes file sections n header f e =
+pub place_reported : (bytes : List ℕ) (file : Ehdr) (sections : List Shdr) (n : ℕ) (header : Shdr) (f : InputFault) → first_fault (place_checks bytes n header) ≡ Some f → first_fault (section_checks (elf_from bytes file sections []) (n, header)) ≡ Some f
+place_reported bytes file sections n header f e =
     let elf = elf_from bytes file sections [] in
     parts elf n header ∙ ap (λ (o : Option InputFault). or_else o (first_fault (name_checks n header (section_name elf n)))) e
 
-pub name_told : (bytes : List ℕ) (file : Ehdr) (sections : List Shdr) (n : ℕ) (header : Shdr) → first_fault (place_checks bytes n header) ≡ None → first_fault (section_checks (elf_from bytes file sections []) (n, header)) ≡ first_fault (name_checks n header (section_name (elf_from bytes file sections []) n))
-name_told bytes file sections n header e =
+pub name_reported : (bytes : List ℕ) (file : Ehdr) (sections : List Shdr) (n : ℕ) (header : Shdr) → first_fault (place_checks bytes n header) ≡ None → first_fault (section_checks (elf_from bytes file sections []) (n, header)) ≡ first_fault (name_checks n header (section_name (elf_from bytes file sections []) n))
+name_reported bytes file sections n header e =
     let elf = elf_from bytes file sections [] in
     parts elf n header ∙ ap (λ (o : Option InputFault). or_else o (first_fault (name_checks n header (section_name elf n)))) e
 

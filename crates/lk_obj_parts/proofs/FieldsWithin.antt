@@ -13,15 +13,15 @@ use Rattle.lk_report.specs.declared.faults.InputFault.{InputFault}
 use Rattle.lk_model.specs.Checks.{first_fault}
 use Rattle.lk_model.specs.Elf.{numbered, section_at}
 use Rattle.lk_model.specs.ObjectChecks.{is_outside, rela_section_checks, rela_sections}
-use Rattle.lk_model.specs.Objects.{is_piece_in, rela_sections_of, symbol_of_rela}
+use Rattle.lk_model.specs.Objects.{is_piece_in, rela_sections_of, r_symbol_of}
 use Rattle.lk_model.specs.Views.{Elf}
 use Rattle.lk_obj_parts.specs.ElfViews.{elf_from}
 use Rattle.lk_obj_parts.specs.FieldMarks.{FieldsFit, RowsFit, field_width}
 use Rattle.lk_obj_parts.specs.RelocationEntries.{entries_from, entry_at, entry_count}
 use Rattle.lk_obj_parts.specs.RelocationParts.{entry_checks_among, entry_faults, head_checks}
 use Rattle.lk_obj_parts.specs.TargetRows.{TargetsFit, room_of}
-use Rattle.lk_obj_parts.proofs.EntryFaults.{entries_fault_told, parts}
-use Rattle.lk_obj_parts.proofs.RelocationTargets.{piece_told}
+use Rattle.lk_obj_parts.proofs.EntryFaults.{entries_fault_reported, parts}
+use Rattle.lk_obj_parts.proofs.RelocationTargets.{piece_reported}
 use Rattle.lk_obj_parts.proofs.RowFaults.{fault_joined, or_else}
 
 first-none : (a b : Option InputFault) → or_else a b ≡ None → a ≡ None
@@ -49,7 +49,7 @@ in-room target n e l = let same : room_of target ≡ target.sh_size = ap (λ t. 
 entry-fits : (count n : ℕ) (target : Shdr) (k : ℕ) (rela : Rela) → first_fault (entry_checks_among count n target (k, rela)) ≡ None → rela.r_offset + field_width rela ≤ room_of target
 unfolding entry_checks_among
 entry-fits count n target k rela e =
-    let both : (is_outside target.sh_size rela ≡ false) × ((target.sh_type == sht_nobits) ≡ false) = third (not (nat_lt (symbol_of_rela rela) count)) (is_outside target.sh_size rela) (target.sh_type == sht_nobits) _ _ _ e in
+    let both : (is_outside target.sh_size rela ≡ false) × ((target.sh_type == sht_nobits) ≡ false) = third (not (nat_lt (r_symbol_of rela) count)) (is_outside target.sh_size rela) (target.sh_type == sht_nobits) _ _ _ e in
     in-room target (rela.r_offset + field_width rela) both.1 (within target.sh_size rela both.0)
 
 -- ---- the entries of a section
@@ -67,7 +67,7 @@ entries-fit bytes header count n target (suc m) j e k l u =
 section-fits : (elf : Elf) (n : ℕ) (header target : Shdr) → is_piece_in elf header.sh_info ≡ true → section_at elf header.sh_info ≡ Some target → first_fault (rela_section_checks elf (n, header)) ≡ None → FieldsFit (room_of target) elf.bytes header
 section-fits elf n header target p s e k l =
     let head : first_fault (head_checks elf n header) ≡ None = first-none (first_fault (head_checks elf n header)) _ (sym (parts elf n header) ∙ e) in
-    entries-fit elf.bytes header (length elf.symbols) n target (entry_count elf.bytes header) 0 (sym (entries_fault_told elf n header target head p s) ∙ e) k (omega arith) (omega (arith, l))
+    entries-fit elf.bytes header (length elf.symbols) n target (entry_count elf.bytes header) 0 (sym (entries_fault_reported elf n header target head p s) ∙ e) k (omega arith) (omega (arith, l))
 
 -- ---- the sections of relocations on a target
 
@@ -102,6 +102,6 @@ chosen-fit size bytes false rows h = tt
 -- where no section of relocations has a fault, each field of each piece fits in it
 pub targets_fit : (bytes : List ℕ) (header : Ehdr) (sections : List Shdr) (symbols : List Sym) → first_fault (flat_map (rela_section_checks (elf_from bytes header sections symbols)) (rela_sections (elf_from bytes header sections symbols))) ≡ None → TargetsFit (elf_from bytes header sections [])
 targets_fit bytes header sections symbols e t target s =
-    let read : is_piece_in (elf_from bytes header sections symbols) t ≡ is_piece_in (elf_from bytes header sections []) t = piece_told bytes header sections symbols t ∙ sym (piece_told bytes header sections [] t) in
+    let read : is_piece_in (elf_from bytes header sections symbols) t ≡ is_piece_in (elf_from bytes header sections []) t = piece_reported bytes header sections symbols t ∙ sym (piece_reported bytes header sections [] t) in
     chosen-fit (room_of target) bytes (is_piece_in (elf_from bytes header sections []) t) (rela_sections_of (elf_from bytes header sections []) t)
     (λ p. rows-fit (elf_from bytes header sections symbols) t target (read ∙ p) s (numbered sections) e)

@@ -10,7 +10,7 @@ use Rattle.lk_model.specs.Views.{Elf}
 use Rattle.lk_model.specs.declared.summaries.Group.{Group}
 use Rattle.lk_obj_parts.specs.GroupLists.{group_in, group_with, groups_among, is_comdat_in}
 use Rattle.lk_obj_parts.specs.GroupParts.{members_in, word_in, words_in}
-use Rattle.lk_obj_parts.proofs.GroupWords.{words_step, words_told}
+use Rattle.lk_obj_parts.proofs.GroupWords.{words_step, words_reported}
 
 -- ---- the flag word
 
@@ -68,10 +68,10 @@ group_of_row elf row = option_map (λ signature. record { signature = signature;
 
 group_same : (elf : Elf) (row : ℕ × Shdr) → group_of_row elf row ≡ option_map (group_with (members_in elf.bytes row.1)) (signature_of elf row.1.sh_info)
 group_same elf row =
-    ap (λ (words : List ℕ). option_map (group_with (drop 1 words)) (signature_of elf row.1.sh_info)) (words_told elf row.1)
+    ap (λ (words : List ℕ). option_map (group_with (drop 1 words)) (signature_of elf row.1.sh_info)) (words_reported elf row.1)
 
 comdat_same : (elf : Elf) (header : Shdr) → is_comdat elf header ≡ is_comdat_in elf.bytes header
-comdat_same elf header = ap (λ (words : List ℕ). list_any (λ word. word == 1) (take 1 words)) (words_told elf header)
+comdat_same elf header = ap (λ (words : List ℕ). list_any (λ word. word == 1) (take 1 words)) (words_reported elf header)
 
 kept : (elf : Elf) (row : ℕ × Shdr) (rows : List (ℕ × Shdr)) (rest : List Group) (t u : Bool) (o : Option Group) → group_of_row elf row ≡ o → is_comdat elf row.1 ≡ u → filter_map (group_of_row elf) (filter (is_comdat_row elf) rows) ≡ rest
     → filter_map (group_of_row elf) (filter (is_comdat_row elf) (cond t (row ∷ rows) rows)) ≡ cons_option (cond (t && u) o None) rest
@@ -89,6 +89,6 @@ among elf n [] = refl
 among elf n (header ∷ headers) =
     kept elf (n, header) (filter is_group (enumerate_from (n + 1) headers)) (groups_among elf headers) (header.sh_type == sht_group) (is_comdat_in elf.bytes header) (option_map (group_with (members_in elf.bytes header)) (signature_of elf header.sh_info)) (group_same elf (n, header)) (comdat_same elf header) (among elf (n + 1) headers)
 
-pub groups_told : (elf : Elf) → groups_in elf ≡ groups_among elf (drop 1 elf.sections)
+pub groups_reported : (elf : Elf) → groups_in elf ≡ groups_among elf (drop 1 elf.sections)
 unfolding groups_in
-groups_told elf = among elf 1 (drop 1 elf.sections)
+groups_reported elf = among elf 1 (drop 1 elf.sections)

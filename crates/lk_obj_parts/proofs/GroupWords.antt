@@ -51,9 +51,9 @@ words_step bytes header k l =
     ∙ ap (λ w. w ∷ drop (suc k) (words_in bytes header)) (word_got bytes header k 0 l)
     ∙ ap (λ n. word_in bytes header k ∷ drop n (words_in bytes header)) (sym (add-one k))
 
-pub words_told : (elf : Elf) (header : Shdr) → words_under elf header ≡ words_in elf.bytes header
+pub words_reported : (elf : Elf) (header : Shdr) → words_under elf header ≡ words_in elf.bytes header
 unfolding words_under words_in word_in
-words_told elf header = refl
+words_reported elf header = refl
 
 -- ---- the flag word
 

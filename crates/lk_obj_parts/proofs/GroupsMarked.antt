@@ -1,4 +1,4 @@
--- Groups whose earlier members are known by marks have the faults of groups that are held against the
+-- Groups whose earlier members are known by marks have the faults of groups that are kept against the
 -- list of those members.
 use Rattle.std.specs.Prelude.{◌≡◌, refl, ℕ, zero, suc, ◌+◌, ◌<◌, ◌≤◌, ◌==◌, Bool, true, false, cond, not, ◌||◌, ◌&&◌, nat_eq, List, [], ◌∷◌, ◌++◌, drop, filter, fold, length, map, replicate, slice_get, Option, Some, None, is_none, is_some, ◌≢◌}
 use mathlib.Core.Logic.{⊎_elim}
@@ -6,7 +6,7 @@ use Rattle.std.specs.List.{enumerate_from, list_all, list_any, range_with_len}
 use Rattle.std.specs.Option.{option_or}
 use Rattle.std.proofs.Common.{ap, ◌∙◌, sym, arith, add-one, append_assoc, append-nil, drop-cons, ext_get_or, get_or, get_or-set_other, get_or-set_same, length-set}
 use Rattle.std.proofs.lemmas.Bool.{and_parts, true≢false}
-use Rattle.std.proofs.lemmas.Bool.Decides.{eqb_tells}
+use Rattle.std.proofs.lemmas.Bool.Decides.{eqb_reports}
 use Rattle.std.proofs.lemmas.List.{drop_all}
 use Rattle.std.proofs.lemmas.List.Folds.{list_any-append}
 use Rattle.std.proofs.lemmas.List.FromFn.{get_or-map-range_with_len, length-map-range_with_len}
@@ -21,10 +21,10 @@ use Rattle.lk_model.specs.Objects.{group_sections, members_under, signature_of}
 use Rattle.lk_model.specs.Views.{Elf}
 use Rattle.lk_obj_parts.specs.GroupMarks.{fault_if_group, is_bad_head, is_marked, is_section_in, is_table_at, marked_fault, marked_faults, marks_after, marks_of, with_mark}
 use Rattle.lk_obj_parts.specs.GroupParts.{members_in, words_in}
-use Rattle.lk_obj_parts.proofs.GroupWords.{words_told}
+use Rattle.lk_obj_parts.proofs.GroupWords.{words_reported}
 use Rattle.lk_obj_parts.specs.SymbolTables.{symbols_at}
-use Rattle.lk_obj_parts.proofs.NamedGroups.{is_table_told}
-use Rattle.lk_obj_parts.proofs.Headers.{section_told}
+use Rattle.lk_obj_parts.proofs.NamedGroups.{is_table_reported}
+use Rattle.lk_obj_parts.proofs.Headers.{section_reported}
 
 -- ---- marks
 
@@ -41,8 +41,8 @@ mark_got : (count : ℕ) (claimed : List ℕ) (n : ℕ) → n < count → get_or
 unfolding marks_of
 mark_got count claimed n l = get_or-map-range_with_len (λ k. list_any (nat_eq k) claimed) 0 count n n false l (omega arith)
 
-mark_told : (count : ℕ) (claimed : List ℕ) (n : ℕ) → n < count → is_marked (marks_of count claimed) n ≡ list_any (nat_eq n) claimed
-mark_told count claimed n l =
+mark_reported : (count : ℕ) (claimed : List ℕ) (n : ℕ) → n < count → is_marked (marks_of count claimed) n ≡ list_any (nat_eq n) claimed
+mark_reported count claimed n l =
     let got : slice_get (marks_of count claimed) n ≡ Some (get_or (marks_of count claimed) n false) = slice_get-get_or (marks_of count claimed) n false (omega (arith, l, marks_length count claimed)) in
     rw got (mark_got count claimed n l)
 
@@ -82,7 +82,7 @@ mark_more count claimed m =
         ∙ sym (mark_got count (claimed ++ m ∷ []) i l)
 
     at : (i : ℕ) → i < count → get_or (with_mark (marks_of count claimed) m) i false ≡ get_or (marks_of count (claimed ++ m ∷ [])) i false
-    at i l = ⊎_elim (λ p. same i l p.0 p.1) (λ p. apart i l p.0 p.1) (eqb_tells i m)
+    at i l = ⊎_elim (λ p. same i l p.0 p.1) (λ p. apart i l p.0 p.1) (eqb_reports i m)
 
 pub fold_more : (count : ℕ) (claimed ms : List ℕ) → fold with_mark (marks_of count claimed) ms ≡ marks_of count (claimed ++ ms)
 fold_more count claimed [] = ap (marks_of count) (sym (append-nil claimed))
@@ -109,21 +109,21 @@ there sections (suc n) e = within (slice_get sections (suc n)) refl e
     within None g t = absurd (true≢false (sym t))
     within (Some x) g t = slice_get_within sections (suc n) x g
 
-any_told : (sections : List Shdr) (claimed ms : List ℕ) → list_all (is_section_in sections) ms ≡ true → list_any (is_marked (marks_of (length sections) claimed)) ms ≡ list_any (λ m. list_any (nat_eq m) claimed) ms
-any_told sections claimed [] e = refl
-any_told sections claimed (m ∷ ms) e =
+any_reported : (sections : List Shdr) (claimed ms : List ℕ) → list_all (is_section_in sections) ms ≡ true → list_any (is_marked (marks_of (length sections) claimed)) ms ≡ list_any (λ m. list_any (nat_eq m) claimed) ms
+any_reported sections claimed [] e = refl
+any_reported sections claimed (m ∷ ms) e =
     let parts : (is_section_in sections m ≡ true) × (list_all (is_section_in sections) ms ≡ true) = and_parts (is_section_in sections m) (list_all (is_section_in sections) ms) e in
-    ap (λ t. t || list_any (is_marked (marks_of (length sections) claimed)) ms) (mark_told (length sections) claimed m (there sections m parts.0))
-    ∙ ap (λ t. list_any (nat_eq m) claimed || t) (any_told sections claimed ms parts.1)
+    ap (λ t. t || list_any (is_marked (marks_of (length sections) claimed)) ms) (mark_reported (length sections) claimed m (there sections m parts.0))
+    ∙ ap (λ t. list_any (nat_eq m) claimed || t) (any_reported sections claimed ms parts.1)
 
-members_told : (sections : List Shdr) (claimed ms : List ℕ) (t : Bool) → list_all (is_section_in sections) ms ≡ t → (not t || list_any (is_marked (marks_of (length sections) claimed)) ms) ≡ (not t || list_any (λ m. list_any (nat_eq m) claimed) ms)
-members_told sections claimed ms true e = any_told sections claimed ms e
-members_told sections claimed ms false e = refl
+members_reported : (sections : List Shdr) (claimed ms : List ℕ) (t : Bool) → list_all (is_section_in sections) ms ≡ t → (not t || list_any (is_marked (marks_of (length sections) claimed)) ms) ≡ (not t || list_any (λ m. list_any (nat_eq m) claimed) ms)
+members_reported sections claimed ms true e = any_reported sections claimed ms e
+members_reported sections claimed ms false e = refl
 
 all_same : (elf : Elf) (ms : List ℕ) → list_all (is_section elf) ms ≡ list_all (is_section_in elf.sections) ms
 all_same elf [] = refl
 all_same elf (m ∷ ms) =
-    ap (λ (o : Option Shdr). is_some o && list_all (is_section elf) ms) (section_told elf m)
+    ap (λ (o : Option Shdr). is_some o && list_all (is_section elf) ms) (section_reported elf m)
     ∙ ap (λ t. is_section_in elf.sections m && t) (all_same elf ms)
 
 -- ---- one group
@@ -137,23 +137,23 @@ six false false false false true f g = refl
 six false false false false false true g = refl
 six false false false false false false g = refl
 
-told_with : (elf : Elf) (claimed : List ℕ) (n : ℕ) (header : Shdr) → marked_fault elf (marks_of (length elf.sections) claimed) n header ≡ first_fault (group_checks elf claimed n header (members_in elf.bytes header))
+reported_with : (elf : Elf) (claimed : List ℕ) (n : ℕ) (header : Shdr) → marked_fault elf (marks_of (length elf.sections) claimed) n header ≡ first_fault (group_checks elf claimed n header (members_in elf.bytes header))
 unfolding marked_fault group_checks
-told_with elf claimed n header =
+reported_with elf claimed n header =
     let ms : List ℕ = members_in elf.bytes header in
-    ap (λ t. cond (is_bad_head elf header || t) (Some (BadGroup n)) None) (members_told elf.sections claimed ms (list_all (is_section_in elf.sections) ms) refl)
+    ap (λ t. cond (is_bad_head elf header || t) (Some (BadGroup n)) None) (members_reported elf.sections claimed ms (list_all (is_section_in elf.sections) ms) refl)
     ∙ six (not (is_group_size header.sh_size)) (not (is_table_at (symbols_at elf.sections) header.sh_link)) (is_none (signature_of elf header.sh_info)) (not (has_group_flag (words_in elf.bytes header))) (not (list_all (is_section_in elf.sections) ms)) (list_any (λ m. list_any (nat_eq m) claimed) ms) (BadGroup n)
-    ∙ ap (λ t. first_fault ((not (is_group_size header.sh_size), BadGroup n) ∷ (not t, BadGroup n) ∷ (is_none (signature_of elf header.sh_info), BadGroup n) ∷ (not (has_group_flag (words_in elf.bytes header)), BadGroup n) ∷ (not (list_all (is_section_in elf.sections) ms), BadGroup n) ∷ (list_any (λ m. list_any (nat_eq m) claimed) ms, BadGroup n) ∷ [])) (sym (is_table_told elf header.sh_link))
+    ∙ ap (λ t. first_fault ((not (is_group_size header.sh_size), BadGroup n) ∷ (not t, BadGroup n) ∷ (is_none (signature_of elf header.sh_info), BadGroup n) ∷ (not (has_group_flag (words_in elf.bytes header)), BadGroup n) ∷ (not (list_all (is_section_in elf.sections) ms), BadGroup n) ∷ (list_any (λ m. list_any (nat_eq m) claimed) ms, BadGroup n) ∷ [])) (sym (is_table_reported elf header.sh_link))
     ∙ ap (λ t. first_fault ((not (is_group_size header.sh_size), BadGroup n) ∷ (not (is_symbol_table elf header.sh_link), BadGroup n) ∷ (is_none (signature_of elf header.sh_info), BadGroup n) ∷ (not (has_group_flag (words_in elf.bytes header)), BadGroup n) ∷ (not t, BadGroup n) ∷ (list_any (λ m. list_any (nat_eq m) claimed) ms, BadGroup n) ∷ [])) (sym (all_same elf ms))
-    ∙ ap (λ words. first_fault ((not (is_group_size header.sh_size), BadGroup n) ∷ (not (is_symbol_table elf header.sh_link), BadGroup n) ∷ (is_none (signature_of elf header.sh_info), BadGroup n) ∷ (not (has_group_flag words), BadGroup n) ∷ (not (list_all (is_section elf) ms), BadGroup n) ∷ (list_any (λ m. list_any (nat_eq m) claimed) ms, BadGroup n) ∷ [])) (sym (words_told elf header))
+    ∙ ap (λ words. first_fault ((not (is_group_size header.sh_size), BadGroup n) ∷ (not (is_symbol_table elf header.sh_link), BadGroup n) ∷ (is_none (signature_of elf header.sh_info), BadGroup n) ∷ (not (has_group_flag words), BadGroup n) ∷ (not (list_all (is_section elf) ms), BadGroup n) ∷ (list_any (λ m. list_any (nat_eq m) claimed) ms, BadGroup n) ∷ [])) (sym (words_reported elf header))
 
 members_same : (elf : Elf) (header : Shdr) → members_in elf.bytes header ≡ members_under elf header
-members_same elf header = ap (drop 1) (sym (words_told elf header))
+members_same elf header = ap (drop 1) (sym (words_reported elf header))
 
-pub fault_told : (elf : Elf) (marks : List Bool) (claimed : List ℕ) (n : ℕ) (header : Shdr) → marks ≡ marks_of (length elf.sections) claimed → marked_fault elf marks n header ≡ first_fault (group_checks elf claimed n header (members_under elf header))
-fault_told elf marks claimed n header e =
+pub fault_reported : (elf : Elf) (marks : List Bool) (claimed : List ℕ) (n : ℕ) (header : Shdr) → marks ≡ marks_of (length elf.sections) claimed → marked_fault elf marks n header ≡ first_fault (group_checks elf claimed n header (members_under elf header))
+fault_reported elf marks claimed n header e =
     ap (λ (bs : List Bool). marked_fault elf bs n header) e
-    ∙ told_with elf claimed n header
+    ∙ reported_with elf claimed n header
     ∙ ap (λ ms. first_fault (group_checks elf claimed n header ms)) (members_same elf header)
 
 -- ---- group after group
@@ -181,14 +181,14 @@ faults_after elf claimed n (header ∷ headers) =
     by_type elf claimed n header headers on true =
         let marks : List Bool = marks_of (length elf.sections) claimed in
         let here : List (Bool × InputFault) = group_checks elf claimed n header (members_under elf header) in
-        ap (λ (o : Option InputFault). option_or o (marked_faults elf (fold with_mark marks (members_in elf.bytes header)) (n + 1) headers)) (fault_told elf marks claimed n header refl)
+        ap (λ (o : Option InputFault). option_or o (marked_faults elf (fold with_mark marks (members_in elf.bytes header)) (n + 1) headers)) (fault_reported elf marks claimed n header refl)
         ∙ ap (λ ms. option_or (first_fault here) (marked_faults elf (fold with_mark marks ms) (n + 1) headers)) (members_same elf header)
         ∙ ap (λ (bs : List Bool). option_or (first_fault here) (marked_faults elf bs (n + 1) headers)) (fold_more (length elf.sections) claimed (members_under elf header))
         ∙ ap (option_or (first_fault here)) (on (claimed ++ members_under elf header))
         ∙ sym (fault_joined here (group_checks_after elf (claimed ++ members_under elf header) (filter is_group (enumerate_from (n + 1) headers))))
 
-pub faults_told : (elf : Elf) (marks : List Bool) → marks ≡ replicate (length elf.sections) false → marked_faults elf marks 1 (drop 1 elf.sections) ≡ first_fault (group_checks_after elf [] (group_sections elf))
-faults_told elf marks e =
+pub faults_reported : (elf : Elf) (marks : List Bool) → marks ≡ replicate (length elf.sections) false → marked_faults elf marks 1 (drop 1 elf.sections) ≡ first_fault (group_checks_after elf [] (group_sections elf))
+faults_reported elf marks e =
     ap (λ (bs : List Bool). marked_faults elf bs 1 (drop 1 elf.sections)) (e ∙ none_marked (length elf.sections))
     ∙ faults_after elf [] 1 (drop 1 elf.sections)
 

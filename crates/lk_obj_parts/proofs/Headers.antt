@@ -4,6 +4,6 @@ use Rattle.lk_model.specs.Elf.{section_at}
 use Rattle.lk_model.specs.Views.{Elf}
 use Rattle.lk_obj_parts.specs.ElfViews.{header_at}
 
-pub section_told : (elf : Elf) (n : ℕ) → section_at elf n ≡ header_at elf.sections n
-section_told elf zero = refl
-section_told elf (suc n) = refl
+pub section_reported : (elf : Elf) (n : ℕ) → section_at elf n ≡ header_at elf.sections n
+section_reported elf zero = refl
+section_reported elf (suc n) = refl

@@ -13,7 +13,7 @@ pub mod EntryFaults
 pub mod FieldsWithin
 pub mod MarkSteps
 pub mod MarkedFields
-pub mod OverlapsTold
+pub mod OverlapsReported
 pub mod RelocationTargets
 pub mod RowFaults
 pub mod RowsGathered

@@ -132,15 +132,15 @@ abbrev pub SitesFit : ℕ → List (ℕ × ℕ × Rela) → Type 0
 SitesFit size [] = Unit {0}
 SitesFit size (site ∷ sites) = (site.2.r_offset + field_width site.2 ≤ size) × SitesFit size sites
 
-told : (size : ℕ) (sites : List (ℕ × ℕ × Rela)) → SitesFit size sites → (marks : List Bool) (earlier : List Rela) → length marks ≡ size → AreBytesOf marks earlier → overlap_marked marks sites ≡ first_fault (overlap_checks_after earlier sites)
+reported : (size : ℕ) (sites : List (ℕ × ℕ × Rela)) → SitesFit size sites → (marks : List Bool) (earlier : List Rela) → length marks ≡ size → AreBytesOf marks earlier → overlap_marked marks sites ≡ first_fault (overlap_checks_after earlier sites)
 unfolding overlap_checks_after
-told size [] f marks earlier e h = refl
-told size (site ∷ sites) f marks earlier e h =
+reported size [] f marks earlier e h = refl
+reported size (site ∷ sites) f marks earlier e h =
     let after : List Bool = painted true marks site.2.r_offset (field_width site.2) in
     let fits : site.2.r_offset + field_width site.2 ≤ length marks = omega (arith, f.0, e) in
     ap (λ t. cond t (Some (BadRela site.0 site.1)) (overlap_marked after sites)) (meets-earlier marks earlier site.2 h)
     ∙ ap (cond (list_any (share_field site.2) earlier) (Some (BadRela site.0 site.1)))
-    (told size sites f.1 after (site.2 ∷ earlier) (length-painted true marks site.2.r_offset (field_width site.2) ∙ e) (one_more marks earlier site.2 fits h))
+    (reported size sites f.1 after (site.2 ∷ earlier) (length-painted true marks site.2.r_offset (field_width site.2) ∙ e) (one_more marks earlier site.2 fits h))
 
 unmarked : (n k : ℕ) → slice_index_or (replicate n false) k false ≡ false
 unmarked zero k = refl
@@ -195,10 +195,10 @@ rows_fit size bytes (row ∷ rows) f =
 
 -- ---- a target
 
--- where no byte was marked, what is told is the first field that shares a byte with an earlier one
-pub overlaps_told : (marks : List Bool) (bytes : List ℕ) (rows : List (ℕ × Shdr)) → marks ≡ replicate (length marks) false → RowsFit (length marks) bytes rows → overlap_marked marks (sites_of bytes rows) ≡ first_fault (overlap_checks_after [] (sites_of bytes rows))
-overlaps_told marks bytes rows e f =
-    told (length marks) (sites_of bytes rows) (rows_fit (length marks) bytes rows f) marks [] refl
+-- where no byte was marked, what is reported is the first field that shares a byte with an earlier one
+pub overlaps_reported : (marks : List Bool) (bytes : List ℕ) (rows : List (ℕ × Shdr)) → marks ≡ replicate (length marks) false → RowsFit (length marks) bytes rows → overlap_marked marks (sites_of bytes rows) ≡ first_fault (overlap_checks_after [] (sites_of bytes rows))
+overlaps_reported marks bytes rows e f =
+    reported (length marks) (sites_of bytes rows) (rows_fit (length marks) bytes rows f) marks [] refl
     (λ k. ap (λ m. slice_index_or m k false) e ∙ unmarked (length marks) k)
 
 -- once all fields are cleared again, no byte is marked

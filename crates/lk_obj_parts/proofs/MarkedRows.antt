@@ -1,5 +1,5 @@
 -- The sections of relocations that are to be marked tell of the same overlaps as all of a target: where each
--- target has one at most, one of fields that rise tells of none.
+-- target has one at most, one of fields that rise reports of none.
 use Rattle.std.specs.Prelude.{◌≡◌, refl, ℕ, ◌+◌, ◌==◌, ◌<◌, Bool, true, false, not, ◌&&◌, cond, nat_le, List, [], ◌∷◌, drop, filter, None}
 use Rattle.std.specs.List.{enumerate_from}
 use Rattle.std.proofs.Common.{sym, ◌∙◌, ap, subst, arith}
@@ -13,7 +13,7 @@ use Rattle.lk_obj_parts.specs.FieldMarks.{RowsFit}
 use Rattle.lk_obj_parts.specs.RisingFields.{fields_rise, targets_rise}
 use Rattle.lk_obj_parts.specs.TargetRows.{is_marked_row, is_row_on, marked_rows, marked_rows_on, piece_rows, rows_on}
 use Rattle.lk_obj_parts.proofs.RisingFields.{either, is_on, none_before, on_none, on_other, overlap_of, row_apart, with-relocations, without}
-use Rattle.lk_obj_parts.proofs.RowsGathered.{and-right, filter-same, rows_told}
+use Rattle.lk_obj_parts.proofs.RowsGathered.{and-right, filter-same, rows_reported}
 
 -- ---- a section on the target
 
@@ -61,10 +61,10 @@ where-rising elf t n least (header ∷ headers) e =
 all-marked : (elf : Elf) (t : ℕ) (rows : List (ℕ × Shdr)) → filter (is_marked_row elf false t) rows ≡ filter (is_row_on elf t) rows
 all-marked elf t rows = filter-same (is_marked_row elf false t) (is_row_on elf t) (λ row. and-right (is_row_on elf t row) true) rows
 
--- what is to be marked of a target tells of the same first overlap as all of it
-pub marked_told : (elf : Elf) (rise : Bool) (t : ℕ) → (rise ≡ true → targets_rise 0 (drop 1 elf.sections) ≡ true) → overlap_of elf.bytes (marked_rows elf rise t) ≡ overlap_of elf.bytes (piece_rows elf t)
-marked_told elf true t h = where-rising elf t 1 0 (drop 1 elf.sections) (h refl) ∙ ap (overlap_of elf.bytes) (rows_told elf t)
-marked_told elf false t h = ap (overlap_of elf.bytes) (all-marked elf t (enumerate_from 1 (drop 1 elf.sections)) ∙ rows_told elf t)
+-- what is to be marked of a target reports of the same first overlap as all of it
+pub marked_reported : (elf : Elf) (rise : Bool) (t : ℕ) → (rise ≡ true → targets_rise 0 (drop 1 elf.sections) ≡ true) → overlap_of elf.bytes (marked_rows elf rise t) ≡ overlap_of elf.bytes (piece_rows elf t)
+marked_reported elf true t h = where-rising elf t 1 0 (drop 1 elf.sections) (h refl) ∙ ap (overlap_of elf.bytes) (rows_reported elf t)
+marked_reported elf false t h = ap (overlap_of elf.bytes) (all-marked elf t (enumerate_from 1 (drop 1 elf.sections)) ∙ rows_reported elf t)
 
 -- ---- what is to be marked fits where all does
 
@@ -82,4 +82,4 @@ some-fit elf rise t size (row ∷ rows) f =
 pub marked_fit : (elf : Elf) (rise : Bool) (t size : ℕ) → RowsFit size elf.bytes (piece_rows elf t) → RowsFit size elf.bytes (marked_rows elf rise t)
 marked_fit elf rise t size f =
     some-fit elf rise t size (enumerate_from 1 (drop 1 elf.sections))
-    (subst (λ (rows : List (ℕ × Shdr)). RowsFit size elf.bytes rows) (sym (rows_told elf t)) f)
+    (subst (λ (rows : List (ℕ × Shdr)). RowsFit size elf.bytes rows) (sym (rows_reported elf t)) f)

@@ -50,8 +50,8 @@ with_table : (elf : Elf) (k : ℕ) → symbol_name elf k ≡ option_and_then (λ
 unfolding symbol_name symbols_from
 with_table elf k = by_table elf (symbol_table elf) k
 
-pub name_told : (elf : Elf) (k : ℕ) (table : SymbolsAt) → Some table ≡ symbols_at elf.sections → symbol_name elf k ≡ option_and_then (name_of_symbol elf table.strings) (slice_get elf.symbols k)
-name_told elf k table e =
+pub name_reported : (elf : Elf) (k : ℕ) (table : SymbolsAt) → Some table ≡ symbols_at elf.sections → symbol_name elf k ≡ option_and_then (name_of_symbol elf table.strings) (slice_get elf.symbols k)
+name_reported elf k table e =
     with_table elf k ∙ ap (option_and_then (λ (t : SymbolsAt). option_and_then (name_of_symbol elf t.strings) (slice_get elf.symbols k))) (sym e)
 
 pub no_name : (elf : Elf) (k : ℕ) → None ≡ symbols_at elf.sections → symbol_name elf k ≡ None
@@ -64,10 +64,10 @@ pub named_by_itself : (elf : Elf) (home : Home) (name : List ℕ) → 0 < length
 named_by_itself elf home [] l = absurd (omega (arith, l))
 named_by_itself elf home (b ∷ bs) l = refl
 
-pub signature_told : (elf : Elf) (k : ℕ) → 0 < k → signature_of elf k ≡ option_and_then (signature_with elf k) (slice_get elf.symbols k)
+pub signature_reported : (elf : Elf) (k : ℕ) → 0 < k → signature_of elf k ≡ option_and_then (signature_with elf k) (slice_get elf.symbols k)
 unfolding signature_of
-signature_told elf zero l = absurd (omega (arith, l))
-signature_told elf (suc k) l = refl
+signature_reported elf zero l = absurd (omega (arith, l))
+signature_reported elf (suc k) l = refl
 
 -- ---- the symbol table by its number
 
@@ -75,6 +75,6 @@ is_table_of : (o : Option (ℕ × Shdr)) (n : ℕ) → is_some_with (λ (row : �
 is_table_of None n = refl
 is_table_of (Some row) n = refl
 
-pub is_table_told : (elf : Elf) (n : ℕ) → is_symbol_table elf n ≡ is_table_at (symbols_at elf.sections) n
+pub is_table_reported : (elf : Elf) (n : ℕ) → is_symbol_table elf n ≡ is_table_at (symbols_at elf.sections) n
 unfolding symbols_from
-is_table_told elf n = is_table_of (symbol_table elf) n
+is_table_reported elf n = is_table_of (symbol_table elf) n

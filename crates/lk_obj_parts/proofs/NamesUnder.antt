@@ -17,7 +17,7 @@ dotted (x ∷ name) (b ∷ base) c =
     ap (λ t. nat_eq b x && t) (dotted name base c)
     ∙ and-assoc (nat_eq b x) (starts_with nat_eq name base) (starts_with nat_eq (drop (length base) name) (c ∷ []))
 
--- ---- the names that stand for others, in three parts
+-- ---- the names that are taken for others, in three parts
 
 abbrev or_else : Option (List ℕ) → Option (List ℕ) → Option (List ℕ)
 or_else (Some x) other = Some x
@@ -37,9 +37,9 @@ parts None (Some x) c name = refl
 parts None None (Some x) name = refl
 parts None None None name = refl
 
-pub common_told : (name : List ℕ) → common_name name ≡ name_of_parts (find (goes_under name) first_names) (find (goes_under name) array_names) (find (goes_under name) older_names) name
+pub common_reported : (name : List ℕ) → common_name name ≡ name_of_parts (find (goes_under name) first_names) (find (goes_under name) array_names) (find (goes_under name) older_names) name
 unfolding common_names first_names array_names older_names
-common_told name =
+common_reported name =
     ap (λ (o : Option (List ℕ)). unwrap_or o name) (found_joined (goes_under name) first_names (array_names ++ older_names))
     ∙ ap (λ (o : Option (List ℕ)). unwrap_or (or_else (find (goes_under name) first_names) o) name) (found_joined (goes_under name) array_names older_names)
     ∙ parts (find (goes_under name) first_names) (find (goes_under name) array_names) (find (goes_under name) older_names) name

@@ -27,7 +27,7 @@ none-chosen n (header ∷ headers) e =
     let both : (is_group header ≡ false) × (list_any is_group headers ≡ false) = neither (is_group header) (list_any is_group headers) e in
     ap (λ b. cond b ((n, header) ∷ rest) rest) both.0 ∙ none-chosen (n + 1) headers both.1
 
-pub no_fault_told : (bytes : List ℕ) (header : Ehdr) (sections : List Shdr) (symbols : List Sym) → list_any is_group sections ≡ false → first_fault (group_checks_after (elf_from bytes header sections symbols) [] (group_sections (elf_from bytes header sections symbols))) ≡ None
+pub no_fault_reported : (bytes : List ℕ) (header : Ehdr) (sections : List Shdr) (symbols : List Sym) → list_any is_group sections ≡ false → first_fault (group_checks_after (elf_from bytes header sections symbols) [] (group_sections (elf_from bytes header sections symbols))) ≡ None
 unfolding group_checks_after
-no_fault_told bytes header sections symbols e =
+no_fault_reported bytes header sections symbols e =
     ap (λ (rows : List (ℕ × Shdr)). first_fault (group_checks_after (elf_from bytes header sections symbols) [] rows)) (none-chosen 1 (drop 1 sections) (none-later sections e))

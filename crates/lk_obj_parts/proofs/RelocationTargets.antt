@@ -16,7 +16,7 @@ use Rattle.lk_model.specs.Pieces.{is_piece, key_of}
 use Rattle.lk_model.specs.Views.{Elf}
 use Rattle.lk_obj_parts.specs.ElfViews.{elf_from, header_at}
 use Rattle.lk_obj_parts.specs.RelocationParts.{is_piece_named, table_number}
-use Rattle.lk_obj_parts.proofs.Headers.{section_told}
+use Rattle.lk_obj_parts.proofs.Headers.{section_reported}
 use Rattle.lk_obj_parts.proofs.SymbolsUnread.{section_name_unread}
 
 some_then : {X : Type 0} (b : Bool) (x : X) → is_some (then_some b x) ≡ b
@@ -32,10 +32,10 @@ named None name = refl
 named (Some header) None = refl
 named (Some header) (Some name) = keyed name header.sh_type header.sh_flags
 
-pub piece_told : (bytes : List ℕ) (header : Ehdr) (sections : List Shdr) (symbols : List Sym) (n : ℕ) → is_piece_in (elf_from bytes header sections symbols) n ≡ is_piece_named (header_at sections n) (section_name (elf_from bytes header sections []) n)
-piece_told bytes header sections symbols n =
+pub piece_reported : (bytes : List ℕ) (header : Ehdr) (sections : List Shdr) (symbols : List Sym) (n : ℕ) → is_piece_in (elf_from bytes header sections symbols) n ≡ is_piece_named (header_at sections n) (section_name (elf_from bytes header sections []) n)
+piece_reported bytes header sections symbols n =
     named (section_at (elf_from bytes header sections symbols) n) (section_name (elf_from bytes header sections symbols) n)
-    ∙ ap (λ o. is_piece_named o (section_name (elf_from bytes header sections symbols) n)) (section_told (elf_from bytes header sections symbols) n)
+    ∙ ap (λ o. is_piece_named o (section_name (elf_from bytes header sections symbols) n)) (section_reported (elf_from bytes header sections symbols) n)
     ∙ ap (is_piece_named (header_at sections n)) (section_name_unread bytes header sections symbols n)
 
 -- ---- the symbol table
@@ -69,5 +69,5 @@ same-number : (table : Option (ℕ × Shdr)) (n : ℕ) → is_some_with (λ (row
 same-number None n = refl
 same-number (Some row) n = refl
 
-pub is_table_told : (elf : Elf) (n : ℕ) → is_symbol_table elf n ≡ is_some_with (λ k. k == n) (table_number 1 (drop 1 elf.sections))
-is_table_told elf n = same-number (symbol_table elf) n
+pub is_table_reported : (elf : Elf) (n : ℕ) → is_symbol_table elf n ≡ is_some_with (λ k. k == n) (table_number 1 (drop 1 elf.sections))
+is_table_reported elf n = same-number (symbol_table elf) n

@@ -45,8 +45,8 @@ filter-both : {X : Type 0} (p : X → Bool) (b : Bool) (xs : List X) → filter 
 filter-both p true xs = filter-same (λ x. p x && true) p (λ x. and-right (p x) true) xs
 filter-both p false xs = filter-same (λ x. p x && false) (λ x. false) (λ x. and-right (p x) false) xs ∙ filter-none xs
 
-pub rows_told : (elf : Elf) (t : ℕ) → rows_on elf t 1 (drop 1 elf.sections) ≡ piece_rows elf t
-rows_told elf t = filter-both (λ (row : ℕ × Shdr). row.1.sh_type == sht_rela && row.1.sh_info == t) (is_piece_in elf t) (numbered elf.sections)
+pub rows_reported : (elf : Elf) (t : ℕ) → rows_on elf t 1 (drop 1 elf.sections) ≡ piece_rows elf t
+rows_reported elf t = filter-both (λ (row : ℕ × Shdr). row.1.sh_type == sht_rela && row.1.sh_info == t) (is_piece_in elf t) (numbered elf.sections)
 
 -- ---- the empty lists
 

@@ -17,11 +17,11 @@ use Rattle.lk_obj_parts.proofs.Rows.{rows_next, rows_done}
 
 -- ---- names
 
--- a name is told without the file's header and symbols
-pub name_told : (elf : Elf) (strings offset : ℕ) → name_at elf strings offset ≡ name_in elf.bytes elf.sections strings offset
+-- a name is reported without the file's header and symbols
+pub name_reported : (elf : Elf) (strings offset : ℕ) → name_at elf strings offset ≡ name_in elf.bytes elf.sections strings offset
 unfolding name_at name_in
-name_told elf zero offset = refl
-name_told elf (suc n) offset = refl
+name_reported elf zero offset = refl
+name_reported elf (suc n) offset = refl
 
 name_under : (elf : Elf) (table : Option (ℕ × Shdr)) (symbol : Sym) → option_and_then (λ (t : ℕ × Shdr). option_and_then (name_of_symbol elf t.1.sh_link) (Some symbol)) table ≡ name_at elf (strings_named table) symbol.st_name
 unfolding name_at
@@ -29,12 +29,12 @@ name_under elf None symbol = refl
 name_under elf (Some table) symbol = refl
 
 -- the name of a symbol is the one at its offset
-pub symbol_told : (elf : Elf) (k : ℕ) (d : Sym) → k < length elf.symbols → symbol_name elf k ≡ name_in elf.bytes elf.sections (strings_named (symbol_table elf)) (get_or elf.symbols k d).st_name
+pub symbol_reported : (elf : Elf) (k : ℕ) (d : Sym) → k < length elf.symbols → symbol_name elf k ≡ name_in elf.bytes elf.sections (strings_named (symbol_table elf)) (get_or elf.symbols k d).st_name
 unfolding symbol_name
-symbol_told elf k d l =
+symbol_reported elf k d l =
     ap (λ (s : Option Sym). option_and_then (λ (t : ℕ × Shdr). option_and_then (name_of_symbol elf t.1.sh_link) s) (symbol_table elf)) (slice_get-get_or elf.symbols k d l)
     ∙ name_under elf (symbol_table elf) (get_or elf.symbols k d)
-    ∙ name_told elf (strings_named (symbol_table elf)) (get_or elf.symbols k d).st_name
+    ∙ name_reported elf (strings_named (symbol_table elf)) (get_or elf.symbols k d).st_name
 
 -- ---- symbols that are not LOCAL
 
@@ -53,7 +53,7 @@ unfolding global_at
 next_global bytes header sections symbols k d l =
     ap (λ (rows : List (ℕ × Sym)). filter_map (λ (r : ℕ × Sym). option_map (global_with r.0 r.1) (symbol_name (elf_from bytes header sections symbols) r.0)) (filter (λ (r : ℕ × Sym). not (is_local r.1)) rows)) (rows_next k symbols d l)
     ∙ added (elf_from bytes header sections symbols) k (get_or symbols k d) (is_local (get_or symbols k d)) (enumerate_from (k + 1) (drop (k + 1) symbols))
-    ∙ ap (λ name. cons_option (cond (is_local (get_or symbols k d)) None (global_named k (get_or symbols k d) name)) (globals_from (elf_from bytes header sections symbols) (k + 1) (drop (k + 1) symbols))) (symbol_told (elf_from bytes header sections symbols) k d l)
+    ∙ ap (λ name. cons_option (cond (is_local (get_or symbols k d)) None (global_named k (get_or symbols k d) name)) (globals_from (elf_from bytes header sections symbols) (k + 1) (drop (k + 1) symbols))) (symbol_reported (elf_from bytes header sections symbols) k d l)
     ∙ listed (global_at bytes sections (strings_named (first_of_type sht_symtab sections)) k (get_or symbols k d)) (globals_from (elf_from bytes header sections symbols) (k + 1) (drop (k + 1) symbols))
 
 pub no_global_left : (elf : Elf) (k : ℕ) (symbols : List Sym) → length symbols ≤ k → globals_from elf k (drop k symbols) ≡ []
@@ -63,7 +63,7 @@ no_global_left elf k symbols l =
 -- ---- LOCAL symbols
 
 -- a LOCAL symbol of a file is one of its symbols
-pub local_told : (elf : Elf) (symbols : List Sym) (k : ℕ) → elf.symbols ≡ symbols → local_in elf k ≡ local_among symbols k
+pub local_reported : (elf : Elf) (symbols : List Sym) (k : ℕ) → elf.symbols ≡ symbols → local_in elf k ≡ local_among symbols k
 unfolding local_in
-local_told elf symbols zero e = refl
-local_told elf symbols (suc k) e = ap (λ (xs : List Sym). unwrap_or (option_map local_with (slice_get xs (suc k))) null_symbol) e
+local_reported elf symbols zero e = refl
+local_reported elf symbols (suc k) e = ap (λ (xs : List Sym). unwrap_or (option_map local_with (slice_get xs (suc k))) null_symbol) e

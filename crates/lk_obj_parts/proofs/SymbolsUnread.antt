@@ -1,4 +1,4 @@
--- The section table and its sections are told without the symbols: what is said of a file whose symbols
+-- The section table and its sections are reported without the symbols: what is said of a file whose symbols
 -- are not read yet holds of it with any symbols. And the file that bytes are, by its parts.
 use Rattle.std.specs.Prelude.{◌≡◌, refl, ℕ, zero, suc, ◌++◌, List, [], ◌∷◌, flat_map, Option, Some, None, option_and_then}
 use Rattle.std.proofs.Common.{ap, ◌∙◌}

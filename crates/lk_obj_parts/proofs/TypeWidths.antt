@@ -13,9 +13,9 @@ among : (ts : List RelocationType) (code : ℕ) → unwrap_or (option_map (λ (t
 among [] code = refl
 among (t ∷ ts) code = found t (find (λ (t : RelocationType). t.code == code) ts) (t.code == code) ∙ ap (cond (t.code == code) t.width) (among ts code)
 
-pub width_told : (code : ℕ) → width_of code ≡ width_among relocation_types code
+pub width_reported : (code : ℕ) → width_of code ≡ width_among relocation_types code
 unfolding width_of relocation_type_of
-width_told code = among relocation_types code
+width_reported code = among relocation_types code
 
 -- a row of width 0, or of another number, is passed over
 same : (b : Bool) (w : ℕ) → cond b w w ≡ w
@@ -42,4 +42,4 @@ codes_with_field = map (λ (t : RelocationType). t.code) (drop 1 relocation_type
 pub width_of_none : (code : ℕ) → IsNone code codes_with_field → 0 ≡ width_of code
 unfolding relocation_types
 width_of_none code n =
-    sym (width_told code ∙ ap (cond (0 == code) 0) (none_among (drop 1 relocation_types) code n) ∙ same (0 == code) 0)
+    sym (width_reported code ∙ ap (cond (0 == code) 0) (none_among (drop 1 relocation_types) code n) ∙ same (0 == code) 0)

@@ -1,4 +1,4 @@
--- The names that stand for all names that go on from them, in three parts, and the name under which
+-- The names that are taken for all names that go on from them, in three parts, and the name under which
 -- another goes, by what the parts hold (this project's own rule).
 use Rattle.std.specs.Prelude.{ℕ, List, [], ◌∷◌, codes, Option, Some, None}
 

@@ -6,7 +6,7 @@ use Rattle.lk_elf.specs.declared.section_header.Shdr.{Shdr}
 use Rattle.lk_report.specs.declared.faults.InputFault.{InputFault}
 use Rattle.lk_report.specs.declared.faults.InputFault.TheVariants.{BadRela}
 use Rattle.lk_model.specs.Checks.{first_fault}
-use Rattle.lk_model.specs.Objects.{code_of_rela}
+use Rattle.lk_model.specs.Objects.{r_type_of}
 use Rattle.lk_model.specs.RelocationTypes.{width_of}
 use Rattle.lk_obj_parts.specs.RelocationEntries.{entry_at, entry_count}
 
@@ -22,7 +22,7 @@ painted mark marks at (suc width) = painted mark (slice_set marks at mark) (at +
 
 -- the width of the field of a relocation
 abbrev pub field_width : Rela → ℕ
-field_width rela = width_of (code_of_rela rela)
+field_width rela = width_of (r_type_of rela)
 
 -- so many entries of section n from this one on, each with both numbers
 abbrev pub sites_from : List ℕ → ℕ → Shdr → ℕ → ℕ → List (ℕ × ℕ × Rela)

@@ -1,5 +1,5 @@
 -- The groups of an object after one another (gABI "Section Groups"): the section numbers that earlier
--- groups claimed are known by marks, one for each section, so that no group is held against each other.
+-- groups claimed are known by marks, one for each section, so that no group is kept against each other.
 use Rattle.std.specs.Prelude.{ℕ, ◌+◌, ◌==◌, Bool, true, not, ◌||◌, if◌then◌else◌, nat_eq, List, [], ◌∷◌, map, fold, slice_get, slice_set, Option, Some, None, is_some, is_none}
 use Rattle.std.specs.List.{list_all, list_any, range_with_len}
 use Rattle.std.specs.Option.{option_or}
@@ -16,7 +16,7 @@ use Rattle.lk_obj_parts.specs.GroupParts.{members_in, words_in}
 use Rattle.lk_obj_parts.specs.SymbolTables.{symbols_at}
 use Rattle.lk_obj_parts.specs.declared.symbol_tables.SymbolsAt.{SymbolsAt}
 
--- for each number below a count whether it stands in a list
+-- for each number below a count whether it is in a list
 unfoldable pub marks_of : ℕ → List ℕ → List Bool
 marks_of count claimed = map (λ n. list_any (nat_eq n) claimed) (range_with_len 0 count)
 

@@ -9,7 +9,7 @@ use Rattle.lk_report.specs.declared.faults.InputFault.{InputFault}
 use Rattle.lk_report.specs.declared.faults.InputFault.TheVariants.{BadTable, BadRela}
 use Rattle.lk_model.specs.Checks.{first_fault}
 use Rattle.lk_model.specs.ObjectChecks.{is_outside, is_section, is_symbol_table, rela_section_checks}
-use Rattle.lk_model.specs.Objects.{symbol_of_rela}
+use Rattle.lk_model.specs.Objects.{r_symbol_of}
 use Rattle.lk_model.specs.Pieces.{is_piece}
 use Rattle.lk_model.specs.Views.{Elf}
 use Rattle.lk_obj_parts.specs.RelocationEntries.{entries_from}
@@ -37,7 +37,7 @@ head_checks elf n header =
 -- the checks of a relocation of section n on this target, in a file of so many symbols
 unfoldable pub entry_checks_among : ℕ → ℕ → Shdr → ℕ × Rela → List (Bool × InputFault)
 entry_checks_among count n target row =
-    (not (nat_lt (symbol_of_rela row.1) count), BadRela n row.0)
+    (not (nat_lt (r_symbol_of row.1) count), BadRela n row.0)
     ∷ (is_outside target.sh_size row.1, BadRela n row.0)
     ∷ (target.sh_type == sht_nobits, BadRela n row.0)
     ∷ []
@@ -50,6 +50,6 @@ entry_faults bytes header count n target k m = first_fault (flat_map (entry_chec
 abbrev pub rela_row_checks : Elf → ℕ × Shdr → List (Bool × InputFault)
 rela_row_checks elf row = cond (row.1.sh_type == sht_rela) (rela_section_checks elf row) []
 
--- the first fault of these sections, or what stands for them, the first of which has this number
+-- the first fault of these sections, or what is taken for them, the first of which has this number
 abbrev pub rows_fault : {X : Type 0} → (ℕ × X → List (Bool × InputFault)) → ℕ → List X → Option InputFault
 rows_fault checks n rows = first_fault (flat_map checks (enumerate_from n rows))

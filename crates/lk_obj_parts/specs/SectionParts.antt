@@ -1,4 +1,4 @@
--- The checks of a section in two parts (gABI "Sections"): where its bytes stand, and what it is by its
+-- The checks of a section in two parts (gABI "Sections"): where its bytes are, and what it is by its
 -- name, type and flags. One after the other they are the checks of a section.
 use Rattle.std.specs.Prelude.{ℕ, ◌==◌, Bool, not, ◌&&◌, ◌||◌, List, [], ◌∷◌, Option, is_none, flat_map}
 use Rattle.std.specs.List.{enumerate_from}
@@ -17,7 +17,7 @@ is_cut_off_in bytes header =
     not (header.sh_type == sht_null || header.sh_type == sht_nobits)
     && not (lies_in bytes header.sh_offset header.sh_size)
 
--- where a section's bytes stand
+-- where a section's bytes are
 unfoldable pub place_checks : List ℕ → ℕ → Shdr → List (Bool × InputFault)
 place_checks bytes n header =
     (is_cut_off_in bytes header, BadTable n)

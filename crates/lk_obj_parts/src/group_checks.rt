@@ -280,7 +280,7 @@ fn has_group(sections: &[Shdr]) -> bool
 }
 
 /// The first fault of the groups of an object, by rising section number. Where it has none, no memory is taken.
-#[tactic(auto, using(crate::proofs::GroupsMarked::faults_told, crate::proofs::NoGroups::no_fault_told))]
+#[tactic(auto, using(crate::proofs::GroupsMarked::faults_reported, crate::proofs::NoGroups::no_fault_reported))]
 pub fn groups_fault(
     alloc: Global,
     bytes: &[u8],

@@ -124,7 +124,7 @@ fn put_group(groups: &mut GroupList, group: Option<Group>) -> Result<(), NoMemor
 }
 
 /// The COMDAT groups of an object, by rising section number.
-#[tactic(auto, using(crate::proofs::GroupLists::group_put, crate::proofs::GroupLists::groups_told, crate::proofs::GroupLists::no_groups_left))]
+#[tactic(auto, using(crate::proofs::GroupLists::group_put, crate::proofs::GroupLists::groups_reported, crate::proofs::GroupLists::no_groups_left))]
 pub fn groups_of(
     alloc: Global,
     bytes: &[u8],

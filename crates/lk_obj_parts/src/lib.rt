@@ -7,7 +7,7 @@
 //! Each contract cites the definition of that name in lk_model (Elf, Pieces, Objects, ObjectChecks), at
 //! the file that `elf_from` in specs/ElfViews makes of the bytes and of what was read from them.
 //!
-//! Callers rely on one law: what is answered is the definition's value, on any bytes. Want of memory
+//! Callers rely on one law: what is answered is the definition's value, on any bytes. Out of memory
 //! alone is tied to no cause; it is answered only by the calls that take an allocator.
 #![tactic(auto)]
 

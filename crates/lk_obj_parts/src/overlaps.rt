@@ -3,7 +3,7 @@
 //!
 //! Fields that rise are seen to share none without any memory (rising_fields.rt); so are those of most objects.
 //! Else the fields of a target are taken in turn, by section and entry. One that meets a mark shares a byte
-//! with an earlier field, and is told; else its own bytes are marked. At the end the same fields are taken
+//! with an earlier field, and is reported; else its own bytes are marked. At the end the same fields are taken
 //! again, and their bytes are cleared, so that one row of marks serves all targets: the cost is two times
 //! eight steps a relocation, and once the size of the longest target.
 
@@ -52,7 +52,7 @@ fn paint(marks: &mut [bool], mark: bool, at: usize, width: usize)
     }
 }
 
-/// Marks the fields of the relocations of section n, up to the first that meets a mark, which is told.
+/// Marks the fields of the relocations of section n, up to the first that meets a mark, which is reported.
 #[tactic(auto, using(crate::proofs::MarkSteps::site_here, crate::proofs::MarkSteps::no_site_here, crate::proofs::MarkSteps::no_site_left, crate::proofs::MarkSteps::site_painted, crate::proofs::MarkSteps::all_painted))]
 fn mark_fields(marks: &mut [bool], bytes: &[u8], n: u32, section: &Shdr) -> Option<InputFault>
     requires few { length bytes.now ≤ 24 * 2 ^ 32 }
@@ -89,7 +89,7 @@ fn clear_fields(marks: &mut [bool], bytes: &[u8], n: u32, section: &Shdr)
 }
 
 /// Marks the fields of these sections of relocations, one after another, up to the first that meets a
-/// mark, which is told.
+/// mark, which is reported.
 #[tactic(auto, using(crate::proofs::MarkSteps::row_here, crate::proofs::MarkSteps::no_row_here, crate::proofs::MarkSteps::no_row_left, crate::proofs::MarkSteps::row_painted, crate::proofs::MarkSteps::rows_painted, crate::proofs::MarkSteps::row_fits))]
 fn mark_rows(marks: &mut [bool], bytes: &[u8], rows: &[(u32, Shdr)]) -> Option<InputFault>
     requires few { length bytes.now ≤ 24 * 2 ^ 32 }
@@ -118,7 +118,7 @@ fn clear_rows(marks: &mut [bool], bytes: &[u8], rows: &[(u32, Shdr)])
 
 /// The first field of a target that shares a byte with an earlier one, where these are the sections of
 /// its relocations, and no byte is marked; where there is none, no byte is marked afterwards.
-#[tactic(auto, using(crate::proofs::MarkedFields::overlaps_told, crate::proofs::MarkedFields::cleared_again))]
+#[tactic(auto, using(crate::proofs::MarkedFields::overlaps_reported, crate::proofs::MarkedFields::cleared_again))]
 fn target_overlap(marks: &mut [bool], bytes: &[u8], rows: &[(u32, Shdr)]) -> Option<InputFault>
     requires few { length bytes.now ≤ 24 * 2 ^ 32 }
     requires fit { RowsFit (length marks.old) bytes.now rows.now }
@@ -179,7 +179,7 @@ fn targets_fault(marks: &mut [bool], bytes: &[u8], lists: &[RowList]) -> Option<
 
 /// The first field of a piece that shares a byte with an earlier one, by target, section and entry, seen with
 /// marks.
-#[tactic(auto, using(crate::proofs::OverlapsTold::lists_fit, crate::proofs::OverlapsTold::overlaps_told))]
+#[tactic(auto, using(crate::proofs::OverlapsReported::lists_fit, crate::proofs::OverlapsReported::overlaps_reported))]
 fn marked_overlap(
     alloc: Global,
     bytes: &[u8],

@@ -123,7 +123,7 @@ fn older_name(name: &[u8]) -> Option<&'static [u8]>
 }
 
 /// The name of the output section of a loaded section that is not thread-local.
-#[tactic(auto, using(crate::proofs::NamesUnder::common_told))]
+#[tactic(auto, using(crate::proofs::NamesUnder::common_reported))]
 fn common_name(name: &[u8]) -> &[u8]
     ensures { result.now ≡ common_name name.now }
 {
@@ -225,7 +225,7 @@ pub(crate) fn is_table_name(name: &[u8]) -> bool
         || is_name(name, b".got.plt")
 }
 
-/// Whether a section has the name of one that stands after the output sections.
+/// Whether a section has the name of one that is after the output sections.
 #[tactic(auto, unfolding(lk_model::specs::Pieces::tail_names))]
 pub(crate) fn is_tail_name(name: &[u8]) -> bool
     ensures { result ≡ is_tail_name name.now }

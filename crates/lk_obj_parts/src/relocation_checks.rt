@@ -1,5 +1,5 @@
 //! The checks of the sections of relocations and of their entries (gABI "Relocation"), in their order: the
-//! first that fails is told, with the numbers of its section and entry. Entries are read one by one, and
+//! first that fails is reported, with the numbers of its section and entry. Entries are read one by one, and
 //! no memory is taken. Whether a target is a piece, which its name decides, is asked of a faulty entry alone.
 
 ghost use Rattle.std.specs.Prelude.{◌≡◌, ◌==◌, ◌+◌, ◌*◌, ◌^◌, ◌<◌, ◌≤◌, List, [], None, drop, flat_map, length};
@@ -20,7 +20,7 @@ use lk_elf::{Ehdr, Rela, Shdr, Sym};
 use lk_report::InputFault;
 
 /// Whether a section, by its number, is a piece.
-#[tactic(auto, using(crate::proofs::RelocationTargets::piece_told, crate::proofs::PieceTypes::none_named))]
+#[tactic(auto, using(crate::proofs::RelocationTargets::piece_reported, crate::proofs::PieceTypes::none_named))]
 pub(crate) fn is_piece_in(bytes: &[u8], header: &Ehdr, sections: &[Shdr], n: u32) -> bool
     ensures { (symbols : List Sym) → result ≡ is_piece_in (elf_from bytes.now header.now sections.now symbols) n }
 {
@@ -108,7 +108,7 @@ fn is_number(number: Option<u32>, n: u32) -> bool
 
 /// The first fault of what a section of relocations says of itself, where the symbol table has this
 /// number.
-#[tactic(auto, using(crate::proofs::Headers::section_told, crate::proofs::RelocationTargets::is_table_told), unfolding(crate::specs::RelocationParts::head_checks))]
+#[tactic(auto, using(crate::proofs::Headers::section_reported, crate::proofs::RelocationTargets::is_table_reported), unfolding(crate::specs::RelocationParts::head_checks))]
 fn head_fault(
     bytes: &[u8],
     header: &Ehdr,
@@ -137,7 +137,7 @@ fn head_fault(
 }
 
 /// The first fault of a section of relocations, where the symbol table has this number.
-#[tactic(auto, using(crate::proofs::Headers::section_told, crate::proofs::EntryFaults::head_told, crate::proofs::EntryFaults::no_target, crate::proofs::EntryFaults::no_piece))]
+#[tactic(auto, using(crate::proofs::Headers::section_reported, crate::proofs::EntryFaults::head_reported, crate::proofs::EntryFaults::no_target, crate::proofs::EntryFaults::no_piece))]
 fn rela_section_fault(
     bytes: &[u8],
     header: &Ehdr,

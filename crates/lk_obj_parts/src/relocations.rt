@@ -3,7 +3,7 @@
 
 ghost use Rattle.std.specs.Prelude.{◌≡◌, ◌+◌, ◌*◌, ◌<◌, ◌≤◌, length, IfOk};
 ghost use Rattle.lk_elf.specs.Records.{rela_at};
-ghost use Rattle.lk_model.specs.Objects.{code_of_rela, relas_under, symbol_of_rela};
+ghost use Rattle.lk_model.specs.Objects.{r_type_of, relas_under, r_symbol_of};
 ghost use Rattle.lk_model.specs.RelocationTypes.{width_of};
 ghost use Rattle.lk_model.specs.Views.{Elf};
 ghost use Rattle.lk_obj_parts.specs.RelocationEntries.{entry_at, entry_count};
@@ -15,7 +15,7 @@ use lk_report::NoMemory;
 use std::alloc::Global;
 
 /// The width in bytes of the field of a relocation type; 0 for NONE and for a number that no type has.
-#[tactic(auto, using(crate::proofs::TypeWidths::width_told), unfolding(lk_model::specs::RelocationTypes::relocation_types))]
+#[tactic(auto, using(crate::proofs::TypeWidths::width_reported), unfolding(lk_model::specs::RelocationTypes::relocation_types))]
 pub fn width_of(code: u64) -> u64
     ensures value { result ≡ width_of code }
     ensures short { result ≤ 8 }
@@ -49,14 +49,14 @@ pub fn width_of(code: u64) -> u64
 
 /// The number of a relocation's symbol.
 pub fn symbol_of(rela: &Rela) -> u64
-    ensures { result ≡ symbol_of_rela rela.now }
+    ensures { result ≡ r_symbol_of rela.now }
 {
     rela.r_info / 0x1_0000_0000
 }
 
 /// The number of a relocation's type.
 pub fn code_of(rela: &Rela) -> u64
-    ensures { result ≡ code_of_rela rela.now }
+    ensures { result ≡ r_type_of rela.now }
 {
     rela.r_info % 0x1_0000_0000
 }
@@ -92,7 +92,7 @@ pub(crate) fn entry_at(bytes: &[u8], header: &Shdr, k: usize) -> Rela
 }
 
 /// The entries of a section of relocations, in one list; none where its bytes do not lie in the file.
-#[tactic(auto, using(crate::proofs::Tables::table_more, crate::proofs::Entries::entries_told))]
+#[tactic(auto, using(crate::proofs::Tables::table_more, crate::proofs::Entries::entries_reported))]
 pub fn relas_under(alloc: Global, bytes: &[u8], header: &Shdr) -> Result<Vec<Rela>, NoMemory>
     ensures { (elf : Elf) → elf.bytes ≡ bytes.now → IfOk result (λ v. v.items ≡ relas_under elf header.now) }
 {

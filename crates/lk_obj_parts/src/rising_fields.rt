@@ -1,6 +1,6 @@
 //! Whether the fields of relocations rise (gABI "Relocation"), as assemblers mostly write them: each section of
 //! relocations is on a later section than the one before it, and each of its fields begins where the one before
-//! it ends, or later. By the law `rising_told` of proofs/OverlapsTold no two fields of a target share a byte then.
+//! it ends, or later. By the law `rising_reported` of proofs/OverlapsTold no two fields of a target share a byte then.
 //! An assembler that finds out late how long its jumps are may put their relocations behind the others of their
 //! section: then that section alone does not rise. Cost: one look at each section header and at each entry, and
 //! no memory.

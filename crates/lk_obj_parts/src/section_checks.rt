@@ -1,5 +1,5 @@
 //! The checks of the section table and of its sections (gABI "ELF Header", "Sections"), in their order: the
-//! first that fails is told, with the section's number.
+//! first that fails is reported, with the section's number.
 
 ghost use Rattle.std.specs.Prelude.{◌≡◌, ◌^◌, ◌<◌, [], flat_map, length, nat_eq};
 ghost use Rattle.std.specs.List.{list_any};
@@ -39,7 +39,7 @@ pub(crate) fn is_of_type(sections: &[Shdr], code: u32, n: u32) -> bool
 }
 
 /// The first fault of the section table.
-#[tactic(auto, using(crate::proofs::Headers::section_told), unfolding(lk_model::specs::ObjectChecks::table_checks))]
+#[tactic(auto, using(crate::proofs::Headers::section_reported), unfolding(lk_model::specs::ObjectChecks::table_checks))]
 pub fn table_fault(bytes: &[u8], header: &Ehdr, sections: &[Shdr]) -> Option<InputFault>
     ensures { result ≡ first_fault (table_checks (elf_from bytes.now header.now sections.now [])) }
 {
@@ -84,7 +84,7 @@ fn is_alignment(n: u64) -> bool
     n == 0 || is_small_power(n)
 }
 
-/// The first fault of where a section's bytes stand.
+/// The first fault of where a section's bytes are.
 #[tactic(auto, unfolding(crate::specs::SectionParts::place_checks))]
 fn place_fault(bytes: &[u8], n: u32, section: &Shdr) -> Option<InputFault>
     ensures { result ≡ first_fault (place_checks bytes.now n section.now) }
@@ -165,7 +165,7 @@ fn name_fault(n: u32, section: &Shdr, name: Option<&[u8]>) -> Option<InputFault>
 }
 
 /// The first fault of a section.
-#[tactic(auto, using(crate::proofs::FaultsFirst::place_told, crate::proofs::FaultsFirst::name_told))]
+#[tactic(auto, using(crate::proofs::FaultsFirst::place_reported, crate::proofs::FaultsFirst::name_reported))]
 fn section_fault(
     bytes: &[u8],
     header: &Ehdr,

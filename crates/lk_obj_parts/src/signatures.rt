@@ -19,7 +19,7 @@ use lk_elf::numbers::SHT_SYMTAB;
 use lk_elf::{Ehdr, Shdr, Sym};
 use lk_model::summaries::Home;
 
-/// Where the symbol table stands; none where the file has none.
+/// Where the symbol table is; none where the file has none.
 #[tactic(auto, using(crate::proofs::NamedGroups::table_here, crate::proofs::NamedGroups::no_table_here, crate::proofs::NamedGroups::no_table_left))]
 pub(crate) fn find_symbols(sections: &[Shdr]) -> Option<SymbolsAt>
     requires few { length sections.now < 2 ^ 32 }
@@ -54,7 +54,7 @@ fn entry_name<'a>(
 }
 
 /// The name of a symbol; none where there is no such symbol, or no name of it.
-#[tactic(auto, using(crate::proofs::NamedGroups::name_told, crate::proofs::NamedGroups::no_name))]
+#[tactic(auto, using(crate::proofs::NamedGroups::name_reported, crate::proofs::NamedGroups::no_name))]
 fn symbol_name<'a>(
     bytes: &'a [u8],
     sections: &[Shdr],
@@ -106,7 +106,7 @@ fn name_or_section<'a>(
 }
 
 /// The signature of a group with this symbol, where the symbol table is known.
-#[tactic(auto, using(crate::proofs::NamedGroups::signature_told), unfolding(lk_model::specs::Objects::signature_of))]
+#[tactic(auto, using(crate::proofs::NamedGroups::signature_reported), unfolding(lk_model::specs::Objects::signature_of))]
 pub(crate) fn signature_under<'a>(
     bytes: &'a [u8],
     header: &Ehdr,
@@ -132,7 +132,7 @@ pub(crate) fn signature_under<'a>(
     }
 }
 
-/// The signature of a group with this symbol; none for symbol 0, and where no name is told.
+/// The signature of a group with this symbol; none for symbol 0, and where no name is reported.
 pub fn signature_of<'a>(
     bytes: &'a [u8],
     header: &Ehdr,

@@ -1,5 +1,5 @@
 //! The checks of the symbol table and of its symbols (gABI "Symbol Table"), in their order: the first that
-//! fails is told, with the number of the table's section or of the symbol.
+//! fails is reported, with the number of the table's section or of the symbol.
 
 ghost use Rattle.std.specs.Prelude.{◌≡◌, ◌^◌, ◌<◌, ◌==◌, ℕ, List, drop, false, length, Some};
 ghost use Rattle.std.specs.Option.{option_copied};
@@ -65,7 +65,7 @@ fn form_fault(sections: &[Shdr], count: usize, n: u32, table: &Shdr) -> Option<I
 }
 
 /// The first fault of this symbol table, which is the first.
-#[tactic(auto, using(crate::proofs::SymbolFaults::second_told, crate::proofs::SymbolFaults::form_told))]
+#[tactic(auto, using(crate::proofs::SymbolFaults::second_reported, crate::proofs::SymbolFaults::form_reported))]
 fn fault_of_table(sections: &[Shdr], symbols: &[Sym], n: u32, table: &Shdr) -> Option<InputFault>
     requires few { length sections.now < 2 ^ 32 }
     ensures { (bytes : List ℕ) (header : Ehdr) → result ≡ first_fault (symbol_table_checks (elf_from bytes header sections.now symbols.now) (Some (n, table.now))) }
@@ -112,7 +112,7 @@ fn entry_fault(sections: &[Shdr], k: u32, symbol: &Sym, name: Option<&[u8]>) -> 
     None
 }
 
-/// Whether a symbol stands on the wrong side of the first that is not LOCAL.
+/// Whether a symbol depends on the wrong side of the first that is not LOCAL.
 fn is_misplaced(first: u32, k: u32, symbol: &Sym) -> bool
     ensures { result ≡ is_misplaced first k symbol.now }
 {
@@ -207,7 +207,7 @@ fn sort_fault(sections: &[Shdr], k: u32, symbol: &Sym) -> Option<InputFault>
 }
 
 /// The first fault of a symbol with this name.
-#[tactic(auto, using(crate::proofs::SymbolFaults::entry_told, crate::proofs::SymbolFaults::side_told, crate::proofs::SymbolFaults::sort_told))]
+#[tactic(auto, using(crate::proofs::SymbolFaults::entry_reported, crate::proofs::SymbolFaults::side_reported, crate::proofs::SymbolFaults::sort_reported))]
 fn named_fault(
     sections: &[Shdr],
     first: u32,
@@ -226,7 +226,7 @@ fn named_fault(
     sort_fault(sections, k, symbol)
 }
 
-/// The first fault of a symbol whose name stands in this string section.
+/// The first fault of a symbol whose name is in this string section.
 fn symbol_fault(
     bytes: &[u8],
     sections: &[Shdr],
@@ -241,7 +241,7 @@ fn symbol_fault(
     named_fault(sections, first, k, symbol, name)
 }
 
-/// The first fault of the symbols from number 1 on, whose names stand in this string section.
+/// The first fault of the symbols from number 1 on, whose names are in this string section.
 #[tactic(auto, using(crate::proofs::SymbolFaults::fault_here, crate::proofs::SymbolFaults::no_fault_here, crate::proofs::SymbolFaults::no_symbol_left))]
 fn fault_of_symbols(
     bytes: &[u8],

@@ -1,4 +1,4 @@
-//! Where the symbol table of a file stands (gABI "Symbol Table").
+//! Where the symbol table of a file is (gABI "Symbol Table").
 
 /// The section of the symbol table, and the string section that it names.
 #[derive(Clone, Copy)]

@@ -72,7 +72,7 @@ fn symbols_at(alloc: Global, bytes: &[u8], at: usize, count: usize) -> Result<Ve
 /// not lie in the file.
 ///
 /// # Errors
-/// Want of memory; for 2^32 symbols or more, which numbers of 32 bits do not tell apart, there is none.
+/// Out of memory; for 2^32 symbols or more, which numbers of 32 bits do not distinguish, there is none.
 #[tactic(auto, unfolding(lk_model::specs::Elf::symbols_of))]
 pub fn read_symbols(alloc: Global, bytes: &[u8], sections: &[Shdr]) -> Result<Vec<Sym>, NoMemory>
     requires few { length sections.now < 2 ^ 32 }
@@ -105,7 +105,7 @@ pub(crate) fn strings_of(sections: &[Shdr]) -> u32
 }
 
 /// The name at an offset of a string section; none where there is none.
-#[tactic(auto, using(crate::proofs::SymbolRows::name_told))]
+#[tactic(auto, using(crate::proofs::SymbolRows::name_reported))]
 pub(crate) fn name_in<'a>(
     bytes: &'a [u8],
     sections: &[Shdr],
@@ -268,7 +268,7 @@ fn local_among(symbols: &[Sym], k: u32) -> Local
 
 /// A LOCAL symbol by its number in a file with these symbols; the null symbol for number 0, and where
 /// there is no such symbol.
-#[tactic(auto, using(crate::proofs::SymbolRows::local_told))]
+#[tactic(auto, using(crate::proofs::SymbolRows::local_reported))]
 pub fn local_of(symbols: &[Sym], k: u32) -> Local
     ensures { (elf : Elf) → elf.symbols ≡ symbols.now → result ≡ local_in elf k }
 {

@@ -7,7 +7,7 @@ ghost use Rattle.lk_obj_parts.specs.ElfViews.{elf_from, header_at};
 
 use lk_elf::{Ehdr, Shdr};
 
-/// What stands from `at` on; nothing past the end.
+/// What is from `at` on; nothing past the end.
 pub(crate) fn rest_from(bytes: &[u8], at: usize) -> &[u8]
     ensures { result.now ≡ drop at bytes.now }
 {
@@ -64,7 +64,7 @@ pub(crate) fn header_at(sections: &[Shdr], n: u32) -> Option<&Shdr>
 
 /// The name at an offset of a string section, without its closing zero; none where there is no such
 /// section, or where the zero is not in the section and in the file.
-#[tactic(auto, using(crate::proofs::Headers::section_told), unfolding(lk_model::specs::Elf::name_at))]
+#[tactic(auto, using(crate::proofs::Headers::section_reported), unfolding(lk_model::specs::Elf::name_at))]
 pub fn name_at<'a>(
     bytes: &'a [u8],
     sections: &[Shdr],
@@ -80,7 +80,7 @@ pub fn name_at<'a>(
 }
 
 /// The name of a section; none where there is no such section, or no name of it.
-#[tactic(auto, using(crate::proofs::Headers::section_told), unfolding(lk_model::specs::Elf::section_name))]
+#[tactic(auto, using(crate::proofs::Headers::section_reported), unfolding(lk_model::specs::Elf::section_name))]
 pub fn section_name<'a>(
     bytes: &'a [u8],
     header: &Ehdr,

@@ -1,9 +1,9 @@
 pub mod ObjectFaults
-pub mod PiecesTold
+pub mod PiecesReported
 pub mod RelocatedSections
 pub mod StacksAsked
 pub mod RelocationLists
-pub mod ObjectsHeld
+pub mod ObjectsStored
 pub mod LocalsRead
 pub mod PiecesListed
 pub mod SoundParts

@@ -13,7 +13,7 @@ use Rattle.lk_model.specs.Views.{Elf}
 use Rattle.lk_model.specs.declared.summaries.Local.{Local}
 use Rattle.lk_obj_parts.specs.ElfViews.{elf_from}
 use Rattle.lk_obj_parts.specs.SymbolParts.{local_among}
-use Rattle.lk_obj_read.specs.ReadObjects.{StandAt, symbols_at}
+use Rattle.lk_obj_read.specs.ReadObjects.{AreAt, symbols_at}
 use Rattle.lk_obj_read.specs.declared.symbol_places.SymbolPlace.{SymbolPlace}
 
 -- ---- one symbol
@@ -22,13 +22,13 @@ use Rattle.lk_obj_read.specs.declared.symbol_places.SymbolPlace.{SymbolPlace}
 abbrev with_symbols : List Sym → Elf
 with_symbols symbols = elf_from [] (record { e_ident = []; e_type = 0; e_machine = 0; e_version = 0; e_entry = 0; e_phoff = 0; e_shoff = 0; e_flags = 0; e_ehsize = 0; e_phentsize = 0; e_phnum = 0; e_shentsize = 0; e_shnum = 0; e_shstrndx = 0 }) [] symbols
 
-pub null_told : (local : Local) → ((elf : Elf) → elf.symbols ≡ [] → local ≡ local_in elf 0) → local ≡ null_symbol
+pub null_reported : (local : Local) → ((elf : Elf) → elf.symbols ≡ [] → local ≡ local_in elf 0) → local ≡ null_symbol
 unfolding local_in
-null_told local h = h (with_symbols []) refl
+null_reported local h = h (with_symbols []) refl
 
-pub one_told : (symbol : Sym) (local : Local) → ((elf : Elf) → elf.symbols ≡ symbol ∷ symbol ∷ [] → local ≡ local_in elf 1) → local ≡ local_with symbol
+pub one_reported : (symbol : Sym) (local : Local) → ((elf : Elf) → elf.symbols ≡ symbol ∷ symbol ∷ [] → local ≡ local_in elf 1) → local ≡ local_with symbol
 unfolding local_in
-one_told symbol local h = h (with_symbols (symbol ∷ symbol ∷ [])) refl
+one_reported symbol local h = h (with_symbols (symbol ∷ symbol ∷ [])) refl
 
 -- ---- by number
 
@@ -57,15 +57,15 @@ local_there bytes place k differ l =
 
 -- ---- the file's symbols
 
-symbols_told : (bytes : List ℕ) → (elf_of bytes).symbols ≡ symbols_of bytes (first_of_type sht_symtab (elf_of bytes).sections)
+symbols_reported : (bytes : List ℕ) → (elf_of bytes).symbols ≡ symbols_of bytes (first_of_type sht_symtab (elf_of bytes).sections)
 unfolding elf_of elf_under elf_with
-symbols_told bytes = refl
+symbols_reported bytes = refl
 
-pub symbols_stand : (bytes : List ℕ) (sections : List Shdr) (place : SymbolPlace) → sections ≡ (elf_of bytes).sections → StandAt bytes (symbols_of bytes (first_of_type sht_symtab sections)) place → StandAt bytes (elf_of bytes).symbols place
-symbols_stand bytes sections place same p = record {
+pub symbols_are_at : (bytes : List ℕ) (sections : List Shdr) (place : SymbolPlace) → sections ≡ (elf_of bytes).sections → AreAt bytes (symbols_of bytes (first_of_type sht_symtab sections)) place → AreAt bytes (elf_of bytes).symbols place
+symbols_are_at bytes sections place same p = record {
   within = p.within;
   each =
-      symbols_told bytes
+      symbols_reported bytes
       ∙ ap (λ (hs : List Shdr). symbols_of bytes (first_of_type sht_symtab hs)) (sym same)
       ∙ p.each;
 }

@@ -136,11 +136,11 @@ pub halves : (elf : Elf) → object_checks elf ≡ table_half elf ++ reference_h
 unfolding object_checks table_half reference_half
 halves elf = two_halves (table_checks elf ++ flat_map (section_checks elf) (numbered elf.sections) ++ symbol_table_checks elf (symbol_table elf) ++ symbol_checks elf (symbol_table elf)) (relas elf) (overlaps elf) (groups elf)
 
-pub tables_told : (elf : Elf) (f : InputFault) → first_fault (table_half elf) ≡ Some f → first_fault (object_checks elf) ≡ Some f
-tables_told elf f e = ap (λ cs. first_fault cs) (halves elf) ∙ stops (table_half elf) (reference_half elf) f e
+pub tables_reported : (elf : Elf) (f : InputFault) → first_fault (table_half elf) ≡ Some f → first_fault (object_checks elf) ≡ Some f
+tables_reported elf f e = ap (λ cs. first_fault cs) (halves elf) ∙ stops (table_half elf) (reference_half elf) f e
 
-pub references_told : (elf : Elf) → first_fault (table_half elf) ≡ None → first_fault (object_checks elf) ≡ first_fault (reference_half elf)
-references_told elf e = ap (λ cs. first_fault cs) (halves elf) ∙ passes (table_half elf) (reference_half elf) e
+pub references_reported : (elf : Elf) → first_fault (table_half elf) ≡ None → first_fault (object_checks elf) ≡ first_fault (reference_half elf)
+references_reported elf e = ap (λ cs. first_fault cs) (halves elf) ∙ passes (table_half elf) (reference_half elf) e
 
 -- ---- the kind
 
@@ -152,18 +152,18 @@ of_kind None h bytes f e = absurd (no_error _ f e)
     no_error k f e = subst (λ t. t) (ap (λ (r : Result Kind InputFault). elim r [ Ok k ↦ Unit {0} | Err x ↦ ⊥ ]) e) tt
 
 -- a file that has a fault of its kind has it as an object
-pub kind_told : (bytes : List ℕ) (f : InputFault) → kind_of bytes ≡ Err f → object_fault bytes ≡ Some f
+pub kind_reported : (bytes : List ℕ) (f : InputFault) → kind_of bytes ≡ Err f → object_fault bytes ≡ Some f
 unfolding kind_of object_fault
-kind_told bytes f e = of_kind (first_fault (kind_checks bytes)) (ehdr_at bytes 0) bytes f e
+kind_reported bytes f e = of_kind (first_fault (kind_checks bytes)) (ehdr_at bytes 0) bytes f e
 
 after_kind : (o : Option InputFault) (h : Ehdr) (k : Kind) → kind_with o h ≡ Ok k → o ≡ None
 after_kind None h k e = refl
 after_kind (Some g) h k e = absurd (subst (λ t. t) (ap (λ (r : Result Kind InputFault). elim r [ Ok k ↦ ⊥ | Err x ↦ Unit {0} ]) e) tt)
 
 -- any other has the fault of its checks
-pub checks_told : (bytes : List ℕ) (k : Kind) → kind_of bytes ≡ Ok k → object_fault bytes ≡ first_fault (object_checks (elf_of bytes))
+pub checks_reported : (bytes : List ℕ) (k : Kind) → kind_of bytes ≡ Ok k → object_fault bytes ≡ first_fault (object_checks (elf_of bytes))
 unfolding kind_of object_fault
-checks_told bytes k e = ap (λ o. object_fault_after o bytes) (after_kind (first_fault (kind_checks bytes)) (ehdr_at bytes 0) k e)
+checks_reported bytes k e = ap (λ o. object_fault_after o bytes) (after_kind (first_fault (kind_checks bytes)) (ehdr_at bytes 0) k e)
 
 short_stops : (a m t : Bool) (rest : List (Bool × InputFault)) → first_fault ((a, Archive) ∷ (not m && t, Script) ∷ (not m, NotElf) ∷ (true, NotElf) ∷ rest) ≡ None → ⊥
 short_stops a m t rest e = some_none _ (fault_there a m t rest) e
@@ -177,7 +177,7 @@ short_stops a m t rest e = some_none _ (fault_there a m t rest) e
     fault_there false false true rest = (Script, refl)
     fault_there false false false rest = (NotElf, refl)
 
--- a file whose kind is told has a header
+-- a file whose kind is reported has a header
 pub no_header : (bytes : List ℕ) (k : Kind) → kind_of bytes ≡ Ok k → length bytes < 64 → ⊥
 unfolding kind_of kind_checks
 no_header bytes k e short =

@@ -3,7 +3,7 @@ use Rattle.std.specs.Prelude.{◌≡◌, refl, ℕ, zero, suc, ◌+◌, ◌*◌,
 use mathlib.Core.Logic.{⊎_elim}
 use Rattle.std.specs.List.{enumerate_from, list_any}
 use Rattle.std.proofs.Common.{ap, ◌∙◌, sym, arith, add-one, drop-cons, get_or, get_or-set_other, get_or-set_same, length-set}
-use Rattle.std.proofs.lemmas.Bool.Decides.{eqb_tells}
+use Rattle.std.proofs.lemmas.Bool.Decides.{eqb_reports}
 use Rattle.std.proofs.lemmas.List.{drop_all}
 use Rattle.std.proofs.lemmas.List.FromFn.{length-map-range_with_len}
 use Rattle.std.proofs.lemmas.Option.{slice_get-get_or}
@@ -42,8 +42,8 @@ or-swap true false = refl
 or-swap false true = refl
 or-swap false false = refl
 
-set_told : (marks : List Bool) (m n : ℕ) → n < length marks → get_or (with_mark marks m) n false ≡ (get_or marks n false || nat_eq n m)
-set_told marks m n l = ⊎_elim (λ p. same p.0 p.1) (λ p. apart p.0 p.1) (eqb_tells n m)
+set_reported : (marks : List Bool) (m n : ℕ) → n < length marks → get_or (with_mark marks m) n false ≡ (get_or marks n false || nat_eq n m)
+set_reported marks m n l = ⊎_elim (λ p. same p.0 p.1) (λ p. apart p.0 p.1) (eqb_reports n m)
   where
     same : nat_eq n m ≡ true → n ≡ m → get_or (with_mark marks m) n false ≡ (get_or marks n false || nat_eq n m)
     same e is =
@@ -58,20 +58,20 @@ set_told marks m n l = ⊎_elim (λ p. same p.0 p.1) (λ p. apart p.0 p.1) (eqb_
         ∙ or-swap false (get_or marks n false)
         ∙ ap (λ t. get_or marks n false || t) (sym e)
 
-after_told : (t : Bool) (marks : List Bool) (m n : ℕ) → n < length marks → get_or (cond t (with_mark marks m) marks) n false ≡ (get_or marks n false || (t && nat_eq n m))
-after_told true marks m n l = set_told marks m n l
-after_told false marks m n l = or-swap false (get_or marks n false)
+after_reported : (t : Bool) (marks : List Bool) (m n : ℕ) → n < length marks → get_or (cond t (with_mark marks m) marks) n false ≡ (get_or marks n false || (t && nat_eq n m))
+after_reported true marks m n l = set_reported marks m n l
+after_reported false marks m n l = or-swap false (get_or marks n false)
 
 after_length : (t : Bool) (marks : List Bool) (m : ℕ) → length (cond t (with_mark marks m) marks) ≡ length marks
 after_length true marks m = length-set marks m true
 after_length false marks m = refl
 
-by_told : (bytes : List ℕ) (marks : List Bool) (n : ℕ) (headers : List Shdr) → n < length marks → get_or (marked_by bytes marks headers) n false ≡ (get_or marks n false || list_any (hits bytes n) headers)
-by_told bytes marks n [] l = or-swap false (get_or marks n false)
-by_told bytes marks n (h ∷ hs) l =
+by_reported : (bytes : List ℕ) (marks : List Bool) (n : ℕ) (headers : List Shdr) → n < length marks → get_or (marked_by bytes marks headers) n false ≡ (get_or marks n false || list_any (hits bytes n) headers)
+by_reported bytes marks n [] l = or-swap false (get_or marks n false)
+by_reported bytes marks n (h ∷ hs) l =
     let more : n < length (marked_after bytes marks h) = omega (arith, l, after_length (has_entries bytes h) marks h.sh_info) in
-    by_told bytes (marked_after bytes marks h) n hs more
-    ∙ ap (λ t. t || list_any (hits bytes n) hs) (after_told (has_entries bytes h) marks h.sh_info n l)
+    by_reported bytes (marked_after bytes marks h) n hs more
+    ∙ ap (λ t. t || list_any (hits bytes n) hs) (after_reported (has_entries bytes h) marks h.sh_info n l)
     ∙ or-assoc (get_or marks n false) (hits bytes n h) (list_any (hits bytes n) hs)
 
 by_length : (bytes : List ℕ) (marks : List Bool) (headers : List Shdr) → length (marked_by bytes marks headers) ≡ length marks
@@ -93,16 +93,16 @@ abbrev is_on : ℕ → ℕ × Shdr → Bool
 is_on n row = row.1.sh_type == sht_rela && row.1.sh_info == n
 
 eq_sym : (a b : ℕ) → nat_eq a b ≡ nat_eq b a
-eq_sym a b = ⊎_elim (λ p. same p.0 p.1) (λ p. apart p.0 p.1) (eqb_tells a b)
+eq_sym a b = ⊎_elim (λ p. same p.0 p.1) (λ p. apart p.0 p.1) (eqb_reports a b)
   where
     same : nat_eq a b ≡ true → a ≡ b → nat_eq a b ≡ nat_eq b a
     same e is = ap (λ k. nat_eq k b) is ∙ ap (λ k. nat_eq b k) (sym is)
 
     apart : nat_eq a b ≡ false → a ≢ b → nat_eq a b ≡ nat_eq b a
-    apart e differ = e ∙ sym (⊎_elim (λ p. absurd (differ (sym p.1))) (λ p. p.0) (eqb_tells b a))
+    apart e differ = e ∙ sym (⊎_elim (λ p. absurd (differ (sym p.1))) (λ p. p.0) (eqb_reports b a))
 
 not_zero : (n : ℕ) → nat_eq (suc n) 0 ≡ false
-not_zero n = ⊎_elim (λ p. absurd (omega (arith, p.1))) (λ p. p.0) (eqb_tells (suc n) 0)
+not_zero n = ⊎_elim (λ p. absurd (omega (arith, p.1))) (λ p. p.0) (eqb_reports (suc n) 0)
 
 and_false : (a : Bool) → (a && false) ≡ false
 and_false true = refl
@@ -140,7 +140,7 @@ all_marks elf = marked_by elf.bytes (replicate (length elf.sections) false) (dro
 
 got : (elf : Elf) (n : ℕ) → n < length elf.sections → get_or (all_marks elf) n false ≡ list_any (hits elf.bytes n) (drop 1 elf.sections)
 got elf n l =
-    by_told elf.bytes (replicate (length elf.sections) false) n (drop 1 elf.sections) (omega (arith, l, replicated_length (length elf.sections)))
+    by_reported elf.bytes (replicate (length elf.sections) false) n (drop 1 elf.sections) (omega (arith, l, replicated_length (length elf.sections)))
     ∙ ap (λ t. t || list_any (hits elf.bytes n) (drop 1 elf.sections)) (none_yet (length elf.sections) n)
 
 marked : (elf : Elf) (n : ℕ) → n < length elf.sections → is_marked (all_marks elf) n ≡ is_relocated elf n
@@ -150,5 +150,5 @@ marked elf n l =
     let there : slice_get (all_marks elf) n ≡ Some (get_or (all_marks elf) n false) = slice_get-get_or (all_marks elf) n false long in
     rw there (got elf n l ∙ counted elf n 1 (drop 1 elf.sections))
 
-pub told : (elf : Elf) (marks : List Bool) (n : ℕ) → n < length elf.sections → marks ≡ marked_by elf.bytes (replicate (length elf.sections) false) (drop 1 elf.sections) → is_marked marks n ≡ is_relocated elf n
-told elf marks n l e = ap (λ (ms : List Bool). is_marked ms n) e ∙ marked elf n l
+pub reported : (elf : Elf) (marks : List Bool) (n : ℕ) → n < length elf.sections → marks ≡ marked_by elf.bytes (replicate (length elf.sections) false) (drop 1 elf.sections) → is_marked marks n ≡ is_relocated elf n
+reported elf marks n l e = ap (λ (ms : List Bool). is_marked ms n) e ∙ marked elf n l

@@ -3,7 +3,7 @@ use Rattle.std.specs.Prelude.{◌≡◌, refl, ℕ, zero, suc, ◌+◌, ◌==◌
 use mathlib.Core.Logic.{⊎_elim}
 use Rattle.std.specs.List.{enumerate_from}
 use Rattle.std.proofs.Common.{sym, ◌∙◌, ap, get_or, drop-cons, add-one, append_assoc, get_or-set_other}
-use Rattle.std.proofs.lemmas.Bool.Decides.{eqb_tells}
+use Rattle.std.proofs.lemmas.Bool.Decides.{eqb_reports}
 use Rattle.std.proofs.lemmas.Grind.{get_or-set_at}
 use Rattle.std.proofs.lemmas.List.{drop_all, append-nil, get_or_default}
 use Rattle.lk_elf.specs.Numbers.{sht_rela}
@@ -41,7 +41,7 @@ pub put_at :
     (bytes : List ℕ) (lists : List (List Rela)) (section : Shdr) (d new entries : List Rela) (t : ℕ)
     → section.sh_type ≡ sht_rela → section.sh_info < length lists → entries ≡ relas_of bytes section → new ≡ slice_index_or lists section.sh_info d ++ entries
     → slice_index_or (slice_set lists section.sh_info new) t [] ≡ with_relas bytes t (slice_index_or lists t []) section
-put_at bytes lists section d new entries t is within told e = ⊎_elim (λ p. here p.0 p.1) (λ p. away p.0 p.1) (eqb_tells section.sh_info t)
+put_at bytes lists section d new entries t is within reported e = ⊎_elim (λ p. here p.0 p.1) (λ p. away p.0 p.1) (eqb_reports section.sh_info t)
   where
     tested : is_on t section ≡ nat_eq section.sh_info t
     tested = ap (λ k. k == sht_rela && section.sh_info == t) is
@@ -51,7 +51,7 @@ put_at bytes lists section d new entries t is within told e = ⊎_elim (λ p. he
         get_or-set_at lists section.sh_info t new [] (sym same) within
         ∙ e
         ∙ ap (λ r. r ++ entries) (get_or_default lists section.sh_info d [] within ∙ ap (λ k. slice_index_or lists k []) same)
-        ∙ ap (λ r. slice_index_or lists t [] ++ r) told
+        ∙ ap (λ r. slice_index_or lists t [] ++ r) reported
         ∙ ap (λ b. cond b (slice_index_or lists t [] ++ relas_of bytes section) (slice_index_or lists t [])) (sym (tested ∙ found))
 
     away : nat_eq section.sh_info t ≡ false → section.sh_info ≢ t → slice_index_or (slice_set lists section.sh_info new) t [] ≡ with_relas bytes t (slice_index_or lists t []) section
@@ -75,9 +75,9 @@ none_yet (suc n) (suc t) = none_yet n t
 
 -- ---- as the file's definitions have them
 
-pub relas_told : (elf : Elf) (header : Shdr) → relas_under elf header ≡ relas_of elf.bytes header
+pub relas_reported : (elf : Elf) (header : Shdr) → relas_under elf header ≡ relas_of elf.bytes header
 unfolding relas_under
-relas_told elf header = refl
+relas_reported elf header = refl
 
 -- a file of these bytes alone
 abbrev pub bare : List ℕ → Elf
@@ -95,10 +95,10 @@ unnumbered : (elf : Elf) (t n : ℕ) (hs : List Shdr) → flat_map (λ (row : �
 unnumbered elf t n [] = refl
 unnumbered elf t n (h ∷ hs) =
     flat_row (is_on t h) elf (n, h) (filter (is_row_on t) (enumerate_from (n + 1) hs))
-    ∙ ap (λ r. cond (is_on t h) (r ++ flat_map (λ (row : ℕ × Shdr). relas_under elf row.1) (filter (is_row_on t) (enumerate_from (n + 1) hs))) (flat_map (λ (row : ℕ × Shdr). relas_under elf row.1) (filter (is_row_on t) (enumerate_from (n + 1) hs)))) (relas_told elf h)
+    ∙ ap (λ r. cond (is_on t h) (r ++ flat_map (λ (row : ℕ × Shdr). relas_under elf row.1) (filter (is_row_on t) (enumerate_from (n + 1) hs))) (flat_map (λ (row : ℕ × Shdr). relas_under elf row.1) (filter (is_row_on t) (enumerate_from (n + 1) hs)))) (relas_reported elf h)
     ∙ ap (λ r. cond (is_on t h) (relas_of elf.bytes h ++ r) r) (unnumbered elf t (n + 1) hs)
     ∙ sym (flat (is_on t h) elf.bytes h (filter (is_on t) hs))
 
-pub relocations_told : (elf : Elf) (t : ℕ) → relocations_in elf t ≡ relas_on elf.bytes t (drop 1 elf.sections)
+pub relocations_reported : (elf : Elf) (t : ℕ) → relocations_in elf t ≡ relas_on elf.bytes t (drop 1 elf.sections)
 unfolding relocations_in
-relocations_told elf t = unnumbered elf t 1 (drop 1 elf.sections)
+relocations_reported elf t = unnumbered elf t 1 (drop 1 elf.sections)

@@ -5,7 +5,7 @@ use mathlib.Core.Logic.{⊎_elim}
 use Rattle.std.specs.List.{enumerate_from}
 use Rattle.std.proofs.Common.{ap, arith, get_or, length-drop, subst, sym, ◌∙◌}
 use Rattle.std.proofs.lemmas.Bool.{eqb-true}
-use Rattle.std.proofs.lemmas.Bool.Decides.{eqb_tells, nat_tests}
+use Rattle.std.proofs.lemmas.Bool.Decides.{eqb_reports, nat_tests}
 use Rattle.std.proofs.lemmas.Grind.{get_or_after_one}
 use Rattle.std.proofs.lemmas.List.{append-nil, length-take}
 use Rattle.std.proofs.lemmas.List.Elements.{All-append, All-cons, All-head, All-nil, All-tail, All-weaker, filter_passes}
@@ -19,7 +19,7 @@ use Rattle.lk_model.specs.Checks.{first_fault, is_some_with}
 use Rattle.lk_model.specs.Elf.{bytes_under, elf_of, lies_in, numbered, section_at, section_name, symbol_table}
 use Rattle.lk_model.specs.Kinds.{kind_checks}
 use Rattle.lk_model.specs.ObjectChecks.{entry_checks, is_cut_off, is_outside, object_checks, object_fault, object_fault_after, rela_checks, rela_section_checks, rela_sections, section_checks, section_checks_named, symbol_checks, symbol_table_checks, table_checks}
-use Rattle.lk_model.specs.Objects.{code_of_rela, is_piece_in, key_in, piece_bytes_in, rela_sections_of, relas_under, relocations_in, symbol_of_rela}
+use Rattle.lk_model.specs.Objects.{r_type_of, is_piece_in, key_in, piece_bytes_in, rela_sections_of, relas_under, relocations_in, r_symbol_of}
 use Rattle.lk_model.specs.Pieces.{is_piece, key_of}
 use Rattle.lk_model.specs.RelocationTypes.{width_of}
 use Rattle.lk_model.specs.Views.{Elf}
@@ -112,7 +112,7 @@ relas_sound elf e =
 
 -- the field lies in so many bytes, and the symbol is one of so many
 abbrev Fine : ℕ → ℕ → Rela → Type 0
-Fine size count rela = (rela.r_offset + width_of (code_of_rela rela) ≤ size) × (symbol_of_rela rela < count)
+Fine size count rela = (rela.r_offset + width_of (r_type_of rela) ≤ size) × (r_symbol_of rela < count)
 
 three : (a b c : Bool) (f g h : InputFault) → first_fault ((a, f) ∷ (b, g) ∷ (c, h) ∷ []) ≡ None → (a ≡ false) × (b ≡ false) × (c ≡ false)
 three true b c f g h e = cc
@@ -120,21 +120,21 @@ three false true c f g h e = cc
 three false false true f g h e = cc
 three false false false f g h e = (refl, refl, refl)
 
-inside : (target : Shdr) (rela : Rela) → is_outside target.sh_size rela ≡ false → (target.sh_type == sht_nobits) ≡ false → rela.r_offset + width_of (code_of_rela rela) ≤ room_of target
+inside : (target : Shdr) (rela : Rela) → is_outside target.sh_size rela ≡ false → (target.sh_type == sht_nobits) ≡ false → rela.r_offset + width_of (r_type_of rela) ≤ room_of target
 inside target rela outside bytes =
     let room : room_of target ≡ target.sh_size = ap (λ t. cond t 0 target.sh_size) bytes in
-    let fits : rela.r_offset + width_of (code_of_rela rela) ≤ target.sh_size = grind (arith, nat_tests, outside) in
+    let fits : rela.r_offset + width_of (r_type_of rela) ≤ target.sh_size = grind (arith, nat_tests, outside) in
     omega (arith, room, fits)
 
-counted : (count : ℕ) (rela : Rela) → not (nat_lt (symbol_of_rela rela) count) ≡ false → symbol_of_rela rela < count
+counted : (count : ℕ) (rela : Rela) → not (nat_lt (r_symbol_of rela) count) ≡ false → r_symbol_of rela < count
 counted count rela e = grind (arith, nat_tests, e)
 
 entry : (elf : Elf) (n : ℕ) (target : Shdr) (row : ℕ × Rela) → first_fault (rela_checks elf n target row) ≡ None → Fine (room_of target) (length elf.symbols) row.1
 unfolding rela_checks
 entry elf n target row e =
-    let told : (not (nat_lt (symbol_of_rela row.1) (length elf.symbols)) ≡ false) × (is_outside target.sh_size row.1 ≡ false) × ((target.sh_type == sht_nobits) ≡ false) =
-    three (not (nat_lt (symbol_of_rela row.1) (length elf.symbols))) (is_outside target.sh_size row.1) (target.sh_type == sht_nobits) _ _ _ e in
-    (inside target row.1 told.1 told.2, counted (length elf.symbols) row.1 told.0)
+    let reported : (not (nat_lt (r_symbol_of row.1) (length elf.symbols)) ≡ false) × (is_outside target.sh_size row.1 ≡ false) × ((target.sh_type == sht_nobits) ≡ false) =
+    three (not (nat_lt (r_symbol_of row.1) (length elf.symbols))) (is_outside target.sh_size row.1) (target.sh_type == sht_nobits) _ _ _ e in
+    (inside target row.1 reported.1 reported.2, counted (length elf.symbols) row.1 reported.0)
 
 module _ (elf : Elf) (t : ℕ) (target : Shdr) (piece : is_piece_in elf t ≡ true) (at : section_at elf t ≡ Some target) where
   entries_none : (row : ℕ × Shdr) → first_fault (rela_section_checks elf row) ≡ None → row.1.sh_info ≡ t → first_fault (flat_map (rela_checks elf row.0 target) (enumerate_from 0 (relas_under elf row.1))) ≡ None
@@ -178,7 +178,7 @@ no_key (Some name) code flags e h = never (subst (λ c. is_some (key_of name c f
 not_null : (elf : Elf) (t : ℕ) (target : Shdr) → is_piece_in elf t ≡ true → section_at elf t ≡ Some target → (target.sh_type == sht_null) ≡ false
 not_null elf t target piece at =
     let key : is_some (key_in elf t target) ≡ true = ap (is_some_with (λ (header : Shdr). is_some (key_in elf t header))) (sym at) ∙ piece in
-    ⊎_elim (λ p. absurd (no_key (section_name elf t) target.sh_type target.sh_flags p.1 key)) (λ p. p.0) (eqb_tells target.sh_type sht_null)
+    ⊎_elim (λ p. absurd (no_key (section_name elf t) target.sh_type target.sh_flags p.1 key)) (λ p. p.0) (eqb_reports target.sh_type sht_null)
 
 abbrev first_test : List (Bool × InputFault) → Bool
 first_test [] = false
@@ -199,9 +199,9 @@ lies false true there e n b = cc
 lies false false true e n b = refl
 lies false false false e n b = cc
 
-held_length : (elf : Elf) (header : Shdr) (nobits : Bool) → (nobits ≡ false → lies_in elf.bytes header.sh_offset header.sh_size ≡ true) → length (if nobits then [] else bytes_under elf header) ≡ cond nobits 0 header.sh_size
-held_length elf header true h = refl
-held_length elf header false h = whole (h refl)
+stored_length : (elf : Elf) (header : Shdr) (nobits : Bool) → (nobits ≡ false → lies_in elf.bytes header.sh_offset header.sh_size ≡ true) → length (if nobits then [] else bytes_under elf header) ≡ cond nobits 0 header.sh_size
+stored_length elf header true h = refl
+stored_length elf header false h = whole (h refl)
   where
     whole : lies_in elf.bytes header.sh_offset header.sh_size ≡ true → length (take header.sh_size (drop header.sh_offset elf.bytes)) ≡ header.sh_size
     whole e =
@@ -219,13 +219,13 @@ row_there P elf (suc m) target at h =
     get_or_after_one elf.sections m target ∙ ap (λ k. get_or elf.sections k target) number ∙ get_or_from_slice_get elf.sections (suc m) target target at in
     subst P (get_or-enumerate_from 1 (drop 1 elf.sections) m (0, target) inner ∙ ap (λ (x : Shdr). (1 + m, x)) same ∙ ap (λ k. (k, target)) number) (h m (0, target) outer)
 
-room_told : (elf : Elf) (t : ℕ) (target : Shdr) → is_piece_in elf t ≡ true → section_at elf t ≡ Some target → first_fault (object_checks elf) ≡ None → length (piece_bytes_in elf t) ≡ room_of target
+room_reported : (elf : Elf) (t : ℕ) (target : Shdr) → is_piece_in elf t ≡ true → section_at elf t ≡ Some target → first_fault (object_checks elf) ≡ None → length (piece_bytes_in elf t) ≡ room_of target
 unfolding piece_bytes_in
-room_told elf t target piece at e =
+room_reported elf t target piece at e =
     let cut : is_cut_off elf target ≡ false = not_cut_off elf t target (row_there (λ (row : ℕ × Shdr). first_fault (section_checks elf row) ≡ None) elf t target at (sections_sound elf e)) in
     ap (λ (o : Option Shdr). length (flat_map (λ (header : Shdr). if header.sh_type == sht_nobits then [] else bytes_under elf header) (option_to_list o))) at
     ∙ ap (λ (bs : List ℕ). length bs) (append-nil (if target.sh_type == sht_nobits then [] else bytes_under elf target))
-    ∙ held_length elf target (target.sh_type == sht_nobits) (λ b. lies (target.sh_type == sht_null) (target.sh_type == sht_nobits) (lies_in elf.bytes target.sh_offset target.sh_size) cut (not_null elf t target piece at) b)
+    ∙ stored_length elf target (target.sh_type == sht_nobits) (λ b. lies (target.sh_type == sht_null) (target.sh_type == sht_nobits) (lies_in elf.bytes target.sh_offset target.sh_size) cut (not_null elf t target piece at) b)
 
 -- ---- by the bytes of the file
 
@@ -238,21 +238,21 @@ found elf t piece = in_option (section_at elf t) piece
 
 -- the bytes of a piece lie in the file whole
 pub bytes_there : (bytes : List ℕ) (t : ℕ) → object_fault bytes ≡ None → IsTrue (is_piece_in (elf_of bytes) t) → IfSome (section_at (elf_of bytes) t) (λ header. length (piece_bytes_in (elf_of bytes) t) ≡ room_of header)
-bytes_there bytes t e piece = of_option (section_at (elf_of bytes) t) (λ target at. room_told (elf_of bytes) t target piece at (checked bytes e))
+bytes_there bytes t e piece = of_option (section_at (elf_of bytes) t) (λ target at. room_reported (elf_of bytes) t target piece at (checked bytes e))
   where
     of_option : (o : Option Shdr) → ((target : Shdr) → o ≡ Some target → length (piece_bytes_in (elf_of bytes) t) ≡ room_of target) → IfSome o (λ header. length (piece_bytes_in (elf_of bytes) t) ≡ room_of header)
     of_option None h = tt
     of_option (Some target) h = h target refl
 
 -- the fields of its relocations lie in them
-pub fields_there : (bytes : List ℕ) (t : ℕ) → object_fault bytes ≡ None → IsTrue (is_piece_in (elf_of bytes) t) → All (λ rela. rela.r_offset + width_of (code_of_rela rela) ≤ length (piece_bytes_in (elf_of bytes) t)) (relocations_in (elf_of bytes) t)
+pub fields_there : (bytes : List ℕ) (t : ℕ) → object_fault bytes ≡ None → IsTrue (is_piece_in (elf_of bytes) t) → All (λ rela. rela.r_offset + width_of (r_type_of rela) ≤ length (piece_bytes_in (elf_of bytes) t)) (relocations_in (elf_of bytes) t)
 fields_there bytes t e piece =
     let there : (target : Shdr) × (section_at (elf_of bytes) t ≡ Some target) = found (elf_of bytes) t piece in
-    let room : length (piece_bytes_in (elf_of bytes) t) ≡ room_of there.0 = room_told (elf_of bytes) t there.0 piece there.1 (checked bytes e) in
+    let room : length (piece_bytes_in (elf_of bytes) t) ≡ room_of there.0 = room_reported (elf_of bytes) t there.0 piece there.1 (checked bytes e) in
     λ k d l. omega (arith, room, (relocations_fine (elf_of bytes) t there.0 piece there.1 (checked bytes e) k d l).0)
 
 -- their symbols are there
-pub symbols_there : (bytes : List ℕ) (t : ℕ) → object_fault bytes ≡ None → IsTrue (is_piece_in (elf_of bytes) t) → All (λ rela. symbol_of_rela rela < length (elf_of bytes).symbols) (relocations_in (elf_of bytes) t)
+pub symbols_there : (bytes : List ℕ) (t : ℕ) → object_fault bytes ≡ None → IsTrue (is_piece_in (elf_of bytes) t) → All (λ rela. r_symbol_of rela < length (elf_of bytes).symbols) (relocations_in (elf_of bytes) t)
 symbols_there bytes t e piece =
     let there : (target : Shdr) × (section_at (elf_of bytes) t ≡ Some target) = found (elf_of bytes) t piece in
     λ k d l. (relocations_fine (elf_of bytes) t there.0 piece there.1 (checked bytes e) k d l).1

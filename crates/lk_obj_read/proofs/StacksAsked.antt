@@ -1,4 +1,4 @@
--- Requests for an executable stack, section after section; they are told without the symbols.
+-- Requests for an executable stack, section after section; they are reported without the symbols.
 use Rattle.std.specs.Prelude.{◌≡◌, refl, ℕ, ◌+◌, ◌<◌, ◌≤◌, true, false, ◌||◌, ◌&&◌, bytes_eq, codes, List, [], ◌∷◌, drop, length}
 use Rattle.std.specs.List.{list_any}
 use Rattle.std.proofs.Common.{ap, ◌∙◌, get_or}
@@ -38,6 +38,6 @@ unread b h s ys (row ∷ rows) =
     ∙ ap (λ t. asks_exec_stack (elf_from b h s []) row || t) (unread b h s ys rows)
 
 -- what is asked of a file without symbols is asked of it with any
-pub stack_told : (b : List ℕ) (h : Ehdr) (s : List Shdr) (ys : List Sym) → list_any (asks_exec_stack (elf_from b h s ys)) (numbered s) ≡ any_asks_from (elf_from b h s []) 1 (drop 1 s)
+pub stack_reported : (b : List ℕ) (h : Ehdr) (s : List Shdr) (ys : List Sym) → list_any (asks_exec_stack (elf_from b h s ys)) (numbered s) ≡ any_asks_from (elf_from b h s []) 1 (drop 1 s)
 unfolding any_asks_from
-stack_told b h s ys = unread b h s ys (numbered s)
+stack_reported b h s ys = unread b h s ys (numbered s)

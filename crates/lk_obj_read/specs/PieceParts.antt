@@ -13,13 +13,13 @@ use Rattle.lk_model.specs.Views.{Elf}
 use Rattle.lk_obj_read.specs.RelocatedSections.{marked_by}
 
 -- the bytes of a section in a file of these bytes; a NOBITS section has none there
-abbrev pub held_bytes : List ℕ → Shdr → List ℕ
-held_bytes bytes header =
+abbrev pub stored_bytes : List ℕ → Shdr → List ℕ
+stored_bytes bytes header =
     if header.sh_type == sht_nobits then [] else take header.sh_size (drop header.sh_offset bytes)
 
 -- a section that holds exactly four zero bytes in a file of these bytes
 abbrev pub is_four_zeros : List ℕ → Shdr → Bool
-is_four_zeros bytes header = bytes_eq (held_bytes bytes header) four_zeros
+is_four_zeros bytes header = bytes_eq (stored_bytes bytes header) four_zeros
 
 -- marks that tell of each section whether it has relocations, where one of them may be a terminator
 abbrev pub MarksServe : List ℕ → List Shdr → List Bool → Type 0
@@ -27,15 +27,15 @@ MarksServe bytes headers marks =
     list_any (is_four_zeros bytes) headers ≡ true
     → marks ≡ marked_by bytes (replicate (length headers) false) (drop 1 headers)
 
--- a terminator: frames of exactly four zero bytes, of a section that is told to have relocations or none
-abbrev pub is_terminator_told : List ℕ → Bool → Shdr → SectionKey → Bool
-is_terminator_told bytes relocated header key =
+-- a terminator: frames of exactly four zero bytes, of a section that is reported to have relocations or none
+abbrev pub is_terminator_reported : List ℕ → Bool → Shdr → SectionKey → Bool
+is_terminator_reported bytes relocated header key =
     is_frames key && is_four_zeros bytes header && not relocated
 
 -- a section as a piece, by its name and by whether it has relocations
-unfoldable pub piece_told : List ℕ → Bool → ℕ → Shdr → List ℕ → Option PieceInfo
-piece_told bytes relocated n header name =
-    option_map (λ (key : SectionKey). piece_with n header name (is_terminator_told bytes relocated header key) key)
+unfoldable pub piece_reported : List ℕ → Bool → ℕ → Shdr → List ℕ → Option PieceInfo
+piece_reported bytes relocated n header name =
+    option_map (λ (key : SectionKey). piece_with n header name (is_terminator_reported bytes relocated header key) key)
     (key_of name header.sh_type header.sh_flags)
 
 -- a section, by its number, as a piece

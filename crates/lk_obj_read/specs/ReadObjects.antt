@@ -19,10 +19,10 @@ use Rattle.lk_obj_read.specs.declared.file_parts.FileParts.{FileParts}
 use Rattle.lk_obj_read.specs.declared.symbol_places.SymbolPlace.{SymbolPlace}
 
 -- what is answered of a file with this first fault: the fault, or where there is none a value of which
--- this holds; want of memory is tied to no cause
+-- this holds; out of memory is tied to no cause
 abbrev pub ReadGives : {X : Type 0} → Option InputFault → (X → Type 0) → Result X ReadFailure → Type 0
 ReadGives fault P (Ok x) = (fault ≡ None) × P x
-ReadGives fault P (Err (Input told)) = fault ≡ Some told
+ReadGives fault P (Err (Input reported)) = fault ≡ Some reported
 ReadGives fault P (Err NoMemory) = Unit {0}
 
 -- the parts of the file that bytes are
@@ -31,12 +31,12 @@ pub record ArePartsOf (bytes : List ℕ) (parts : FileParts) : Type 0 where
   pub few_sections : length parts.sections.items < 2 ^ 32
   pub few_symbols : length parts.symbols.items < 2 ^ 32
 
--- the entries of 24 bytes that stand in a file at this place
+-- the entries of 24 bytes that are in a file at this place
 abbrev pub symbols_at : List ℕ → SymbolPlace → List Sym
 symbols_at bytes place = map (λ k. sym_at bytes (place.at + sym_size * k)) (range_with_len 0 place.count)
 
--- these symbols stand in a file at this place
-pub record StandAt (bytes : List ℕ) (symbols : List Sym) (place : SymbolPlace) : Type 0 where
+-- these symbols are in a file at this place
+pub record AreAt (bytes : List ℕ) (symbols : List Sym) (place : SymbolPlace) : Type 0 where
   pub within : place.at + sym_size * place.count ≤ length bytes
   pub each : symbols ≡ symbols_at bytes place
 
@@ -44,7 +44,7 @@ pub record StandAt (bytes : List ℕ) (symbols : List Sym) (place : SymbolPlace)
 pub record IsRead (bytes : List ℕ) (headers : List Shdr) (place : SymbolPlace) (kept : InputSummary) (lists : List (List Rela)) : Type 0 where
   pub sound : object_fault bytes ≡ None
   pub sections : headers ≡ (elf_of bytes).sections
-  pub symbols : StandAt bytes (elf_of bytes).symbols place
+  pub symbols : AreAt bytes (elf_of bytes).symbols place
   pub summary : kept ≡ summary_in (elf_of bytes)
   pub count : length lists ≡ length (elf_of bytes).sections
   pub relocations : (n : ℕ) → n < length (elf_of bytes).sections → slice_index_or lists n [] ≡ relocations_in (elf_of bytes) n

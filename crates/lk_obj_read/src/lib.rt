@@ -2,16 +2,16 @@
 //! means it, or the first of the named faults with its place.
 //!
 //! `object_fault` is the first fault of a file by all checks in their order, or none: a validating reader.
-//! `read_object` tells the same fault, or gives the object, which contracts see as its bytes: its summary,
-//! the bytes and the relocations of its pieces, its LOCAL symbols. `summarize` tells the same fault, or gives
+//! `read_object` reports the same fault, or gives the object, which contracts see as its bytes: its summary,
+//! the bytes and the relocations of its pieces, its LOCAL symbols. `summarize` reports the same fault, or gives
 //! the summary alone; `object_of` makes the object of a file that was so summarized, and checks nothing anew
 //! (`copy_summary` gives it a summary of its own). `read_summary` is what a link keeps of an object of any parts: pieces (`pieces_of`),
 //! symbols, groups, and whether it asks for an executable stack (`asks_exec_stack`); `relocated_sections`
-//! tells which sections have relocations. Each contract cites the
+//! reports which sections have relocations. Each contract cites the
 //! definition of that name in lk_model (ObjectChecks, Objects); the passes that checks go through, and what
-//! they read, stand in lk_obj_parts.
+//! they read, are in lk_obj_parts.
 //!
-//! Callers rely on one law: what is answered is the definition's value, on any bytes. Want of memory alone
+//! Callers rely on one law: what is answered is the definition's value, on any bytes. Out of memory alone
 //! is tied to no cause.
 #![tactic(auto)]
 

@@ -7,7 +7,7 @@ ghost use Rattle.lk_elf.specs.Records.{sym_at};
 ghost use Rattle.lk_model.specs.Elf.{first_of_type, symbols_of};
 ghost use Rattle.lk_model.specs.Objects.{local_with, null_symbol};
 ghost use Rattle.lk_obj_parts.specs.SymbolParts.{local_among};
-ghost use Rattle.lk_obj_read.specs.ReadObjects.{StandAt, symbols_at};
+ghost use Rattle.lk_obj_read.specs.ReadObjects.{AreAt, symbols_at};
 
 use crate::symbol_places::SymbolPlace;
 use lk_elf::numbers::SYM_SIZE;
@@ -15,12 +15,12 @@ use lk_elf::{Shdr, Sym};
 use lk_model::summaries::Local;
 use lk_obj_parts::{local_of, symbol_table};
 
-/// Where the symbols of a file with these sections stand; none where it has no symbol table, or where the
+/// Where the symbols of a file with these sections are; none where it has no symbol table, or where the
 /// table does not lie in the file.
 #[tactic(auto, unfolding(lk_model::specs::Elf::symbols_of))]
 pub(crate) fn place_of_symbols(bytes: &[u8], sections: &[Shdr]) -> SymbolPlace
     requires few { length sections.now < 2 ^ 32 }
-    ensures { StandAt bytes.now (symbols_of bytes.now (first_of_type sht_symtab sections.now)) result }
+    ensures { AreAt bytes.now (symbols_of bytes.now (first_of_type sht_symtab sections.now)) result }
 {
     let nowhere = SymbolPlace { at: 0, count: 0 };
     let Some((_, table)) = symbol_table(sections) else {

@@ -70,7 +70,7 @@ fn references_fault(
 }
 
 /// The first fault of a file of these parts.
-#[tactic(auto, using(crate::proofs::ObjectFaults::tables_told, crate::proofs::ObjectFaults::references_told))]
+#[tactic(auto, using(crate::proofs::ObjectFaults::tables_reported, crate::proofs::ObjectFaults::references_reported))]
 fn parts_fault(
     alloc: Global,
     bytes: &[u8],
@@ -118,7 +118,7 @@ fn checked_parts(alloc: Global, bytes: &[u8], header: Ehdr) -> Result<FileParts,
 }
 
 /// The parts of a file that can be linked as an object, or its first fault.
-#[tactic(auto, using(crate::proofs::ObjectFaults::kind_told, crate::proofs::ObjectFaults::no_header, crate::proofs::ObjectFaults::checks_told))]
+#[tactic(auto, using(crate::proofs::ObjectFaults::kind_reported, crate::proofs::ObjectFaults::no_header, crate::proofs::ObjectFaults::checks_reported))]
 pub(crate) fn sound_parts(alloc: Global, bytes: &[u8]) -> Result<FileParts, ReadFailure>
     requires few_entries { length bytes.now ≤ 24 * 2 ^ 32 }
     ensures { ReadGives (object_fault bytes.now) (ArePartsOf bytes.now) result }
@@ -135,7 +135,7 @@ pub(crate) fn sound_parts(alloc: Global, bytes: &[u8]) -> Result<FileParts, Read
 /// The first fault of a file that is read as an object; none where it is one. At most 96 GiB.
 ///
 /// # Errors
-/// Want of memory alone.
+/// Out of memory alone.
 pub fn object_fault(alloc: Global, bytes: &[u8]) -> Result<Option<InputFault>, NoMemory>
     requires few_entries { length bytes.now ≤ 24 * 2 ^ 32 }
     ensures { IfOk result (λ fault. fault ≡ object_fault bytes.now) }

@@ -49,7 +49,7 @@ fn object_with(
 /// beside them it takes 24 bytes a relocation, about 100 bytes a section, and its summary. At most 96 GiB.
 ///
 /// # Errors
-/// The file's first fault, or want of memory, which is tied to no cause. The bytes are then dropped.
+/// The file's first fault, or out of memory, which is tied to no cause. The bytes are then dropped.
 pub fn read_object(alloc: Global, bytes: Bytes) -> Result<Object, ReadFailure>
     requires { length bytes ≤ 24 * 2 ^ 32 }
     ensures { ReadGives (object_fault bytes) (λ object. object ≡ bytes) result }
@@ -88,7 +88,7 @@ fn sections_of(alloc: Global, bytes: &[u8]) -> Result<Vec<Shdr>, NoMemory>
 /// 24 bytes a relocation and about 100 bytes a section.
 ///
 /// # Errors
-/// Want of memory alone. The bytes are then dropped.
+/// Out of memory alone. The bytes are then dropped.
 pub fn object_of(alloc: Global, bytes: Bytes, summary: InputSummary) -> Result<Object, NoMemory>
     requires sound { object_fault bytes ≡ None }
     requires summary { summary ≡ summary_in (elf_of bytes) }
@@ -101,7 +101,7 @@ pub fn object_of(alloc: Global, bytes: Bytes, summary: InputSummary) -> Result<O
 /// Reads what a link keeps of a file that is read as an object, and nothing else of it. At most 96 GiB.
 ///
 /// # Errors
-/// The file's first fault, or want of memory, which is tied to no cause.
+/// The file's first fault, or out of memory, which is tied to no cause.
 pub fn summarize(alloc: Global, bytes: &[u8]) -> Result<InputSummary, ReadFailure>
     requires { length bytes.now ≤ 24 * 2 ^ 32 }
     ensures { ReadGives (object_fault bytes.now) (λ summary. summary ≡ summary_in (elf_of bytes.now)) result }

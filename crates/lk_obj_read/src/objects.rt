@@ -6,13 +6,13 @@ ghost use Rattle.lk_elf.specs.Numbers.{shf_tls};
 ghost use Rattle.lk_model.specs.Amounts.{has_flag};
 ghost use Rattle.lk_model.specs.Elf.{elf_of, section_at};
 ghost use Rattle.lk_model.specs.ObjectChecks.{object_fault};
-ghost use Rattle.lk_model.specs.Objects.{code_of_rela, is_piece_in, local_in, piece_bytes_in, relocations_in, summary_in, symbol_of_rela};
+ghost use Rattle.lk_model.specs.Objects.{r_type_of, is_piece_in, local_in, piece_bytes_in, relocations_in, summary_in, r_symbol_of};
 ghost use Rattle.lk_model.specs.RelocationTypes.{width_of};
 ghost use Rattle.lk_model.specs.ScanFaults.{is_tls_section};
 ghost use Rattle.lk_obj_parts.specs.TargetRows.{room_of};
 
 use crate::local_symbols::local_at;
-use crate::pieces::held_bytes;
+use crate::pieces::stored_bytes;
 use crate::relocation_lists::RelaList;
 use crate::symbol_places::SymbolPlace;
 use lk_elf::Shdr;
@@ -56,7 +56,7 @@ impl Object {
     ///
     /// An object has no fault, and what it lists as pieces are pieces, for which the calls below may be
     /// asked.
-    #[tactic(auto, using(crate::proofs::ObjectsHeld::pieces_told))]
+    #[tactic(auto, using(crate::proofs::ObjectsStored::pieces_reported))]
     pub fn summary(&self) -> &InputSummary
         ensures value { result.now ≡ summary_in (elf_of self.now) }
         ensures sound { object_fault self.now ≡ None }
@@ -67,30 +67,30 @@ impl Object {
 
     /// The bytes of a piece in the file, all that its header says; none of a NOBITS section. Takes no
     /// memory.
-    #[tactic(auto, using(crate::proofs::ObjectsHeld::is_there, crate::proofs::ObjectsHeld::held_told, crate::proofs::SoundParts::bytes_there))]
+    #[tactic(auto, using(crate::proofs::ObjectsStored::is_there, crate::proofs::ObjectsStored::stored_reported, crate::proofs::SoundParts::bytes_there))]
     pub fn piece_bytes(&self, section: u32) -> &[u8]
         requires { IsTrue (is_piece_in (elf_of self.now) section) }
         ensures value { result.now ≡ piece_bytes_in (elf_of self.now) section }
         ensures whole { IfSome (section_at (elf_of self.now) section) (λ header. length result.now ≡ room_of header) }
     {
-        held_bytes(self.bytes.as_slice(), &self.sections[section as usize])
+        stored_bytes(self.bytes.as_slice(), &self.sections[section as usize])
     }
 
     /// The relocations of a piece, by the section that holds them and entry. Their fields lie in the bytes
     /// of the piece, and the object has their symbols. Takes no memory.
-    #[tactic(auto, using(crate::proofs::ObjectsHeld::is_there, crate::proofs::SoundParts::fields_there, crate::proofs::SoundParts::symbols_there))]
+    #[tactic(auto, using(crate::proofs::ObjectsStored::is_there, crate::proofs::SoundParts::fields_there, crate::proofs::SoundParts::symbols_there))]
     pub fn relocations(&self, section: u32) -> &RelaList
         requires { IsTrue (is_piece_in (elf_of self.now) section) }
         ensures value { result.now ≡ relocations_in (elf_of self.now) section }
-        ensures fields { All (λ rela. rela.r_offset + width_of (code_of_rela rela) ≤ length (piece_bytes_in (elf_of self.now) section)) result.now }
-        ensures symbols { All (λ rela. symbol_of_rela rela < length (elf_of self.now).symbols) result.now }
+        ensures fields { All (λ rela. rela.r_offset + width_of (r_type_of rela) ≤ length (piece_bytes_in (elf_of self.now) section)) result.now }
+        ensures symbols { All (λ rela. r_symbol_of rela < length (elf_of self.now).symbols) result.now }
     {
         &self.relocations[section as usize]
     }
 
     /// A LOCAL symbol by its number; the null symbol for number 0, whatever its bytes are, and for a number
     /// that no symbol has. Takes no memory.
-    #[tactic(auto, using(lk_obj_parts::proofs::SymbolRows::local_told))]
+    #[tactic(auto, using(lk_obj_parts::proofs::SymbolRows::local_reported))]
     pub fn local(&self, symbol: u32) -> Local
         ensures { result ≡ local_in (elf_of self.now) symbol }
     {

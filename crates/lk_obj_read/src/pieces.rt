@@ -1,7 +1,7 @@
 //! The pieces of an object: the sections that may be linked, each with its output section (gABI "Sections").
 //!
 //! A terminator of frames is four zero bytes without relocations. Where a section holds four zero bytes, which
-//! sections have relocations is told for all of them at once, so that no list of relocations is looked for; in
+//! sections have relocations is reported for all of them at once, so that no list of relocations is looked for; in
 //! most objects none does, and no mark is made. Cost: one look at each section header, one at the name of each
 //! section that can be a piece by its type and flags, and two names copied for each piece.
 
@@ -13,7 +13,7 @@ ghost use Rattle.lk_model.specs.Elf.{section_name};
 ghost use Rattle.lk_model.specs.Objects.{alignment_of, is_frames, piece_with, pieces_in};
 ghost use Rattle.lk_obj_parts.specs.ElfViews.{elf_from};
 ghost use Rattle.lk_obj_parts.specs.GroupMarks.{is_marked};
-ghost use Rattle.lk_obj_read.specs.PieceParts.{MarksServe, held_bytes, is_four_zeros, is_terminator_told, piece_told};
+ghost use Rattle.lk_obj_read.specs.PieceParts.{MarksServe, stored_bytes, is_four_zeros, is_terminator_reported, piece_reported};
 
 use crate::relocation_marks::relocated_sections;
 use lk_elf::numbers::SHT_NOBITS;
@@ -24,7 +24,7 @@ use lk_obj_parts::{key_of, may_be_piece, section_name};
 use lk_report::{Name, NoMemory};
 use std::alloc::Global;
 
-/// What stands from `at` on; nothing past the end.
+/// What is from `at` on; nothing past the end.
 fn rest_from(bytes: &[u8], at: usize) -> &[u8]
     ensures { result.now ≡ drop at bytes.now }
 {
@@ -43,8 +43,8 @@ fn front_of(bytes: &[u8], size: usize) -> &[u8]
 }
 
 /// The bytes of a section, as far as the file has them; none of a NOBITS section.
-pub(crate) fn held_bytes<'a>(bytes: &'a [u8], section: &Shdr) -> &'a [u8]
-    ensures { result.now ≡ held_bytes bytes.now section.now }
+pub(crate) fn stored_bytes<'a>(bytes: &'a [u8], section: &Shdr) -> &'a [u8]
+    ensures { result.now ≡ stored_bytes bytes.now section.now }
 {
     if section.sh_type == SHT_NOBITS {
         &[]
@@ -60,7 +60,7 @@ pub(crate) fn held_bytes<'a>(bytes: &'a [u8], section: &Shdr) -> &'a [u8]
 fn is_four_zeros(bytes: &[u8], section: &Shdr) -> bool
     ensures { result ≡ is_four_zeros bytes.now section.now }
 {
-    held_bytes(bytes, section) == [0, 0, 0, 0].as_slice()
+    stored_bytes(bytes, section) == [0, 0, 0, 0].as_slice()
 }
 
 /// Whether a section of an object holds exactly four zero bytes, so that it may be a terminator.
@@ -82,9 +82,9 @@ fn is_frames(key: &SectionKey) -> bool
     }
 }
 
-/// Whether a section of frames is a terminator, where it is told to have relocations or none.
+/// Whether a section of frames is a terminator, where it is reported to have relocations or none.
 fn is_terminator(bytes: &[u8], relocated: bool, section: &Shdr, key: &SectionKey) -> bool
-    ensures { result ≡ is_terminator_told bytes.now relocated section.now key.now }
+    ensures { result ≡ is_terminator_reported bytes.now relocated section.now key.now }
 {
     is_frames(key) && is_four_zeros(bytes, section) && !relocated
 }
@@ -115,7 +115,7 @@ fn piece_with(n: u32, section: &Shdr, name: Name, terminator: bool, key: Section
 }
 
 /// A section as a piece, by its name; none where it is no piece.
-#[tactic(auto, unfolding(crate::specs::PieceParts::piece_told))]
+#[tactic(auto, unfolding(crate::specs::PieceParts::piece_reported))]
 fn piece_named(
     alloc: Global,
     bytes: &[u8],
@@ -124,7 +124,7 @@ fn piece_named(
     section: &Shdr,
     name: &[u8],
 ) -> Result<Option<PieceInfo>, NoMemory>
-    ensures { IfOk result (λ piece. piece ≡ piece_told bytes.now relocated n section.now name.now) }
+    ensures { IfOk result (λ piece. piece ≡ piece_reported bytes.now relocated n section.now name.now) }
 {
     let Some(key) = key_of(alloc, name, section.sh_type, section.sh_flags)? else {
         return Ok(None);
@@ -135,7 +135,7 @@ fn piece_named(
 }
 
 /// A section as a piece; none where it is no piece, or has no name.
-#[tactic(auto, using(crate::proofs::PiecesTold::no_piece))]
+#[tactic(auto, using(crate::proofs::PiecesReported::no_piece))]
 fn piece_at(
     alloc: Global,
     bytes: &[u8],
@@ -145,7 +145,7 @@ fn piece_at(
     n: u32,
     section: &Shdr,
 ) -> Result<Option<PieceInfo>, NoMemory>
-    ensures { IfOk result (λ piece. piece ≡ option_and_then (piece_told bytes.now relocated n section.now) (section_name (elf_from bytes.now header.now sections.now []) n)) }
+    ensures { IfOk result (λ piece. piece ≡ option_and_then (piece_reported bytes.now relocated n section.now) (section_name (elf_from bytes.now header.now sections.now []) n)) }
 {
     if !may_be_piece(section.sh_type, section.sh_flags) {
         return Ok(None);
@@ -189,11 +189,11 @@ fn put_piece(pieces: &mut PieceInfoList, piece: Option<PieceInfo>) -> Result<(),
 
 /// The sections of an object that may be linked, by rising section number.
 ///
-/// A section number is told in 32 bits.
+/// A section number is reported in 32 bits.
 ///
 /// # Errors
-/// Want of memory alone.
-#[tactic(auto, using(crate::proofs::PiecesTold::piece_put))]
+/// Out of memory alone.
+#[tactic(auto, using(crate::proofs::PiecesReported::piece_put))]
 pub fn pieces_of(
     alloc: Global,
     bytes: &[u8],

@@ -1,7 +1,7 @@
 //! The relocations of each section of an object (gABI "Relocation", sh_info), in one list for each section
 //! number.
 //!
-//! Problem: relocations stand by the section that holds them, and are asked for by the section that they
+//! Problem: relocations are by the section that holds them, and are asked for by the section that they
 //! change; several sections may hold relocations of one target. Steps: an empty list for each section; then,
 //! by rising number, the entries of each section of relocations go to the end of its target's list. Cost: one
 //! look at each section header, and one reading of each entry; a target of one section of relocations, as
@@ -78,8 +78,8 @@ fn put_relas(
 /// For each section, by its number, its relocations by section and entry.
 ///
 /// # Errors
-/// Want of memory alone.
-#[tactic(auto, using(crate::proofs::RelocationLists::relas_put, crate::proofs::RelocationLists::all_relas_put, crate::proofs::RelocationLists::none_yet, crate::proofs::RelocationLists::relocations_told))]
+/// Out of memory alone.
+#[tactic(auto, using(crate::proofs::RelocationLists::relas_put, crate::proofs::RelocationLists::all_relas_put, crate::proofs::RelocationLists::none_yet, crate::proofs::RelocationLists::relocations_reported))]
 pub(crate) fn relocations_by_target(
     alloc: Global,
     bytes: &[u8],

@@ -66,11 +66,11 @@ fn mark_targets(bytes: &[u8], sections: &[Shdr], marks: &mut [bool])
 }
 
 /// For each section, by its number, whether it has relocations: at least one entry, in the file, of a section
-/// that names it as its target. By the law `told` of proofs/RelocatedSections each mark says whether lk_model's
+/// that names it as its target. By the law `reported` of proofs/RelocatedSections each mark says whether lk_model's
 /// list of the section's relocations has an entry.
 ///
 /// # Errors
-/// Want of memory alone.
+/// Out of memory alone.
 pub fn relocated_sections(
     alloc: Global,
     bytes: &[u8],

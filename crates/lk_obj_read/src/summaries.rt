@@ -15,10 +15,10 @@ use std::alloc::Global;
 
 /// What a link keeps of an object of these parts, whether or not it has faults.
 ///
-/// Numbers of sections and of symbols are told in 32 bits.
+/// Numbers of sections and of symbols are reported in 32 bits.
 ///
 /// # Errors
-/// Want of memory alone.
+/// Out of memory alone.
 #[tactic(auto, unfolding(lk_model::specs::Objects::summary_in))]
 pub fn read_summary(
     alloc: Global,

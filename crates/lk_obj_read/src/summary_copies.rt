@@ -40,7 +40,7 @@ fn copy_groups(alloc: Global, groups: &[Group]) -> Result<GroupList, NoMemory>
 /// An equal summary: its pieces, symbols and groups with their names.
 ///
 /// # Errors
-/// Want of memory alone.
+/// Out of memory alone.
 pub fn copy_summary(alloc: Global, summary: &InputSummary) -> Result<InputSummary, NoMemory>
     ensures { IfOk result (λ copy. copy ≡ summary.now) }
 {

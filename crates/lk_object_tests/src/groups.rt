@@ -1,9 +1,9 @@
 //! Groups and their answers by the rules: each check once, beside it its neighbour just inside the limit,
-//! and which of two groups is told.
+//! and which of two groups is reported.
 
 ghost use Rattle.std.specs.Prelude.{◌+◌, ◌≤◌};
 
-use crate::headers::{NO_SECTION, NO_SECTIONS, NO_SYMBOL, Told, is_text};
+use crate::headers::{NO_SECTION, NO_SECTIONS, NO_SYMBOL, FileAnswers, is_text};
 use lk_elf::numbers::{SHF_ALLOC, SHN_ABS, SHT_GROUP, SHT_PROGBITS, SHT_STRTAB, SHT_SYMTAB};
 use lk_elf::{Ehdr, Shdr, Sym};
 use lk_model::summaries::{Group, GroupList};
@@ -108,7 +108,7 @@ fn file(words: [u32; 6]) -> [u8; SIZE] {
 }
 
 /// The first fault of two groups, of which the first has this header, with these words and this symbol 1.
-fn told(alloc: Global, words: [u32; 6], first: Shdr, of_text: Sym) -> Told {
+fn reported(alloc: Global, words: [u32; 6], first: Shdr, of_text: Sym) -> FileAnswers {
     let bytes = file(words);
     let sections = [NO_SECTION, first, SECOND, TEXT, SYMBOLS, STRINGS];
     let symbols = [NO_SYMBOL, of_text, SIGNATURE];
@@ -116,13 +116,13 @@ fn told(alloc: Global, words: [u32; 6], first: Shdr, of_text: Sym) -> Told {
 }
 
 /// The fault of groups with these words.
-fn words_told(alloc: Global, words: [u32; 6]) -> Told {
-    told(alloc, words, FIRST, OF_TEXT)
+fn words_reported(alloc: Global, words: [u32; 6]) -> FileAnswers {
+    reported(alloc, words, FIRST, OF_TEXT)
 }
 
 /// The fault of groups of which this is the first.
-fn first_told(alloc: Global, first: Shdr) -> Told {
-    told(alloc, WORDS, first, OF_TEXT)
+fn first_reported(alloc: Global, first: Shdr) -> FileAnswers {
+    reported(alloc, WORDS, first, OF_TEXT)
 }
 
 fn sized(sh_size: u64) -> Shdr {
@@ -142,58 +142,58 @@ fn placed(sh_offset: u64) -> Shdr {
 }
 
 #[test]
-fn a_size_is_told(rt: HostRuntime) {
+fn a_size_is_reported(rt: HostRuntime) {
     let bad = Some(InputFault::BadGroup(1));
     for (size, wanted) in [(0, bad), (3, bad), (4, None), (6, bad), (12, None)] {
-        assert_eq!(rt; first_told(rt.alloc(), sized(size)), Ok(wanted));
+        assert_eq!(rt; first_reported(rt.alloc(), sized(size)), Ok(wanted));
     }
 }
 
 #[test]
-fn a_link_is_told(rt: HostRuntime) {
+fn a_link_is_reported(rt: HostRuntime) {
     let bad = Some(InputFault::BadGroup(1));
     for (link, wanted) in [(5, bad), (0, bad), (4, None)] {
-        assert_eq!(rt; first_told(rt.alloc(), linked(link)), Ok(wanted));
+        assert_eq!(rt; first_reported(rt.alloc(), linked(link)), Ok(wanted));
     }
 }
 
 #[test]
-fn a_signature_is_told(rt: HostRuntime) {
+fn a_signature_is_reported(rt: HostRuntime) {
     let bad = Some(InputFault::BadGroup(1));
     for (symbol, wanted) in [(0, bad), (1, None), (2, None), (3, bad)] {
-        assert_eq!(rt; first_told(rt.alloc(), signed(symbol)), Ok(wanted));
+        assert_eq!(rt; first_reported(rt.alloc(), signed(symbol)), Ok(wanted));
     }
 }
 
 #[test]
-fn a_signature_without_a_section_is_told(rt: HostRuntime) {
+fn a_signature_without_a_section_is_reported(rt: HostRuntime) {
     let absolute = Sym {
         st_shndx: SHN_ABS,
         ..OF_TEXT
     };
     let second = Some(InputFault::BadGroup(2));
-    assert_eq!(rt; told(rt.alloc(), WORDS, FIRST, absolute), Ok(second));
+    assert_eq!(rt; reported(rt.alloc(), WORDS, FIRST, absolute), Ok(second));
 }
 
 #[test]
-fn a_place_is_told(rt: HostRuntime) {
+fn a_place_is_reported(rt: HostRuntime) {
     let first = Some(InputFault::BadGroup(1));
     let second = Some(InputFault::BadGroup(2));
     for (place, wanted) in [(80, None), (92, second), (93, first)] {
-        assert_eq!(rt; first_told(rt.alloc(), placed(place)), Ok(wanted));
+        assert_eq!(rt; first_reported(rt.alloc(), placed(place)), Ok(wanted));
     }
 }
 
 #[test]
-fn a_flag_is_told(rt: HostRuntime) {
+fn a_flag_is_reported(rt: HostRuntime) {
     let bad = Some(InputFault::BadGroup(1));
     for (flag, wanted) in [(0, None), (1, None), (2, bad)] {
-        assert_eq!(rt; words_told(rt.alloc(), [flag, 3, 3, 1, 5, 4]), Ok(wanted));
+        assert_eq!(rt; words_reported(rt.alloc(), [flag, 3, 3, 1, 5, 4]), Ok(wanted));
     }
 }
 
 #[test]
-fn a_member_is_told(rt: HostRuntime) {
+fn a_member_is_reported(rt: HostRuntime) {
     let first = Some(InputFault::BadGroup(1));
     let second = Some(InputFault::BadGroup(2));
     let cases = [
@@ -207,7 +207,7 @@ fn a_member_is_told(rt: HostRuntime) {
         ([1, 3, 6, 1, 3, 3], first),
     ];
     for (words, wanted) in cases {
-        assert_eq!(rt; words_told(rt.alloc(), words), Ok(wanted));
+        assert_eq!(rt; words_reported(rt.alloc(), words), Ok(wanted));
     }
 }
 

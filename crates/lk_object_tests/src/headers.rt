@@ -1,11 +1,11 @@
-//! The headers and symbols that tests make theirs of, and what a check tells.
+//! The headers and symbols that tests make theirs of, and what a check reports.
 
 use lk_elf::numbers::{ET_REL, SHN_UNDEF, SHT_NULL};
 use lk_elf::{Ehdr, Shdr, Sym};
 use lk_report::{InputFault, NoMemory};
 
 /// The first fault, or none, where there was memory to look for it.
-pub type Told = Result<Option<InputFault>, NoMemory>;
+pub type FileAnswers = Result<Option<InputFault>, NoMemory>;
 
 /// The header of a relocatable object without sections.
 pub const NO_SECTIONS: Ehdr = Ehdr {

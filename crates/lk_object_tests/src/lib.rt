@@ -1,6 +1,6 @@
 //! Tests of objects, part by part and as a whole, by small files whose faults and parts are known by the rules.
 //!
-//! They stand in a crate of their own above the crates that they call, since a crate with tests is proved
+//! They are in a crate of their own above the crates that they call, since a crate with tests is proved
 //! twice. `sections`, `symbols`, `relocations` and `groups` show the parts of objects (lk_obj_parts); `objects`
 //! whole files and the objects that they are, `summaries` what a link keeps of them, `relocated` which
 //! relocations a section has (lk_obj_read). `headers` has the empty headers that these are made of. What is

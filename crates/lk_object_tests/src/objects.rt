@@ -1,9 +1,9 @@
 //! Whole files and their answers by the rules: an object that passes, files that differ from it in one place or
-//! in two, and what is told of an object that is read.
+//! in two, and what is reported of an object that is read.
 
 ghost use Rattle.std.specs.Prelude.{◌≤◌, ◌*◌, ◌^◌, length};
 
-use crate::headers::Told;
+use crate::headers::FileAnswers;
 use lk_elf::Rela;
 use lk_model::layouts::Class;
 use lk_model::summaries::{Home, Kind, Local};
@@ -72,14 +72,14 @@ fn changed(at: usize, byte: u8) -> [u8; 640] {
     bytes
 }
 
-fn told(alloc: Global, bytes: &[u8]) -> Told
+fn reported(alloc: Global, bytes: &[u8]) -> FileAnswers
     requires { length bytes.now ≤ 24 * 2 ^ 32 }
 {
     object_fault(alloc, bytes)
 }
 
 #[test]
-fn whole_files_are_told(rt: HostRuntime) {
+fn whole_files_are_reported(rt: HostRuntime) {
     let cases: [(&[u8], Option<InputFault>); 4] = [
         (&OBJECT, None),
         (&[], Some(InputFault::NotElf)),
@@ -87,7 +87,7 @@ fn whole_files_are_told(rt: HostRuntime) {
         (&OBJECT[..639], Some(InputFault::BadTable(0))),
     ];
     for (bytes, wanted) in cases {
-        assert_eq!(rt; told(rt.alloc(), bytes), Ok(wanted));
+        assert_eq!(rt; reported(rt.alloc(), bytes), Ok(wanted));
     }
 }
 
@@ -109,16 +109,16 @@ fn each_part_is_looked_at(rt: HostRuntime) {
         (SECOND_OFFSET, 4, Some(InputFault::BadRela(2, 1))),
     ];
     for (at, byte, wanted) in cases {
-        assert_eq!(rt; told(rt.alloc(), &changed(at, byte)), Ok(wanted));
+        assert_eq!(rt; reported(rt.alloc(), &changed(at, byte)), Ok(wanted));
     }
 }
 
 #[test]
-fn the_first_of_two_faults_is_told(rt: HostRuntime) {
+fn the_first_of_two_faults_is_reported(rt: HostRuntime) {
     let mut bytes = changed(SECOND_OFFSET, 4);
     bytes[SYMBOL_INFO] = 0x32;
     let wanted = Some(InputFault::UnsupportedSymbol(1));
-    assert_eq!(rt; told(rt.alloc(), &bytes), Ok(wanted));
+    assert_eq!(rt; reported(rt.alloc(), &bytes), Ok(wanted));
 }
 
 /// The object that these bytes are.
@@ -177,7 +177,7 @@ fn a_piece_has_its_bytes_and_relocations(rt: HostRuntime) -> Result<(), ReadFail
 }
 
 #[test]
-fn local_symbols_are_told_by_number(rt: HostRuntime) -> Result<(), ReadFailure> {
+fn local_symbols_are_reported_by_number(rt: HostRuntime) -> Result<(), ReadFailure> {
     let mut bytes = changed(SYMBOL_INFO, 0x02);
     bytes[FIRST_GLOBAL] = 2;
     let object = read(rt.alloc(), &bytes)?;

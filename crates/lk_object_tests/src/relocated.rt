@@ -1,4 +1,4 @@
-//! Which sections are told to have relocations, and in which order those of several sections stand.
+//! Which sections are reported to have relocations, and in which order those of several sections are.
 
 use crate::objects::{OBJECT, RELOCATIONS, failure, read};
 use lk_elf::numbers::{SHF_ALLOC, SHF_EXECINSTR, SHT_NULL, SHT_PROGBITS, SHT_RELA};
@@ -79,7 +79,7 @@ fn two_lists(target: u32) -> [u8; 816] {
 }
 
 #[test]
-fn entries_stand_by_section_and_entry(rt: HostRuntime) -> Result<(), ReadFailure> {
+fn entries_are_at_by_section_and_entry(rt: HostRuntime) -> Result<(), ReadFailure> {
     let object = read(rt.alloc(), &two_lists(1))?;
     let listed = [none(8), none(9), RELOCATIONS[0], RELOCATIONS[1]];
     let pieces = object.summary().pieces.as_slice();
@@ -92,7 +92,7 @@ fn entries_stand_by_section_and_entry(rt: HostRuntime) -> Result<(), ReadFailure
 }
 
 #[test]
-fn entries_without_a_target_are_told(rt: HostRuntime) {
+fn entries_without_a_target_are_reported(rt: HostRuntime) {
     let fault = InputFault::BadTable(6);
     assert_eq!(rt;
         failure(rt.alloc(), &two_lists(8)),

@@ -3,7 +3,7 @@
 
 ghost use Rattle.std.specs.Prelude.{◌^◌, ◌<◌, ◌≤◌, length};
 
-use crate::headers::{NO_SECTION, NO_SECTIONS, NO_SYMBOL, Told};
+use crate::headers::{NO_SECTION, NO_SECTIONS, NO_SYMBOL, FileAnswers};
 use lk_elf::numbers::{
     SHF_ALLOC, SHF_EXECINSTR, SHF_WRITE, SHT_NOBITS, SHT_PROGBITS, SHT_RELA, SHT_STRTAB, SHT_SYMTAB,
 };
@@ -104,7 +104,7 @@ fn file(a: Rela, b: Rela, c: Rela, d: Rela) -> [u8; SIZE] {
 
 /// The first fault of the relocations of a file with these sections 1, 4 and 5, in which section 6 is
 /// data; it has two symbols.
-fn told(alloc: Global, bytes: &[u8], text: Shdr, first: Shdr, second: Shdr) -> Told
+fn reported(alloc: Global, bytes: &[u8], text: Shdr, first: Shdr, second: Shdr) -> FileAnswers
     requires { length bytes.now ≤ 1000 }
 {
     let sections = [NO_SECTION, text, TITLES, SYMBOLS, first, second, DATA];
@@ -115,18 +115,18 @@ fn told(alloc: Global, bytes: &[u8], text: Shdr, first: Shdr, second: Shdr) -> T
 }
 
 /// The fault of four relocations of the code, two in each section.
-fn four_told(alloc: Global, a: Rela, b: Rela, c: Rela, d: Rela) -> Told {
-    told(alloc, &file(a, b, c, d), TEXT, FIRST, SECOND)
+fn four_reported(alloc: Global, a: Rela, b: Rela, c: Rela, d: Rela) -> FileAnswers {
+    reported(alloc, &file(a, b, c, d), TEXT, FIRST, SECOND)
 }
 
 /// The fault where the last of three fields apart is this one.
-fn last_told(alloc: Global, d: Rela) -> Told {
-    four_told(alloc, four(0), none(16), four(8), d)
+fn last_reported(alloc: Global, d: Rela) -> FileAnswers {
+    four_reported(alloc, four(0), none(16), four(8), d)
 }
 
 /// The fault where section 4 has this header, and fields are apart.
-fn first_told(alloc: Global, first: Shdr) -> Told {
-    told(
+fn first_reported(alloc: Global, first: Shdr) -> FileAnswers {
+    reported(
         alloc,
         &file(four(0), four(4), four(8), four(12)),
         TEXT,
@@ -147,7 +147,7 @@ fn fields_share_a_byte(rt: HostRuntime) {
         (none(0), none(0), None),
     ];
     for (a, b, wanted) in cases {
-        assert_eq!(rt; four_told(rt.alloc(), a, b, none(0), none(0)), Ok(wanted));
+        assert_eq!(rt; four_reported(rt.alloc(), a, b, none(0), none(0)), Ok(wanted));
     }
 }
 
@@ -164,7 +164,7 @@ fn fields_of_two_sections_share_a_byte(rt: HostRuntime) {
         (none(1), None),
     ];
     for (d, wanted) in cases {
-        assert_eq!(rt; last_told(rt.alloc(), d), Ok(wanted));
+        assert_eq!(rt; last_reported(rt.alloc(), d), Ok(wanted));
     }
 }
 
@@ -188,7 +188,7 @@ fn each_target_has_its_own_fields(rt: HostRuntime) {
     ];
     for (d, second, wanted) in cases {
         let bytes = file(four(0), four(4), four(0), d);
-        assert_eq!(rt; told(rt.alloc(), &bytes, TEXT, FIRST, second), Ok(wanted));
+        assert_eq!(rt; reported(rt.alloc(), &bytes, TEXT, FIRST, second), Ok(wanted));
     }
 }
 
@@ -201,7 +201,7 @@ fn past() -> Rela {
 }
 
 #[test]
-fn an_entry_is_told(rt: HostRuntime) {
+fn an_entry_is_reported(rt: HostRuntime) {
     let last = Some(InputFault::BadRela(5, 1));
     let cases = [
         (past(), last),
@@ -211,7 +211,7 @@ fn an_entry_is_told(rt: HostRuntime) {
         (four(u64::MAX), last),
     ];
     for (d, wanted) in cases {
-        assert_eq!(rt; last_told(rt.alloc(), d), Ok(wanted));
+        assert_eq!(rt; last_reported(rt.alloc(), d), Ok(wanted));
     }
 }
 
@@ -223,20 +223,20 @@ fn zeros_have_no_fields(rt: HostRuntime) {
     };
     let bytes = file(none(0), none(0), none(0), none(0));
     let wanted = Some(InputFault::BadRela(4, 0));
-    assert_eq!(rt; told(rt.alloc(), &bytes, zeros, FIRST, SECOND), Ok(wanted));
+    assert_eq!(rt; reported(rt.alloc(), &bytes, zeros, FIRST, SECOND), Ok(wanted));
 }
 
 #[test]
-fn a_later_entry_is_told_before_an_overlap(rt: HostRuntime) {
+fn a_later_entry_is_reported_before_an_overlap(rt: HostRuntime) {
     let wanted = Some(InputFault::BadRela(5, 1));
     assert_eq!(rt;
-        four_told(rt.alloc(), four(0), four(0), none(0), past()),
+        four_reported(rt.alloc(), four(0), four(0), none(0), past()),
         Ok(wanted)
     );
 }
 
 #[test]
-fn a_section_of_relocations_is_told(rt: HostRuntime) {
+fn a_section_of_relocations_is_reported(rt: HostRuntime) {
     let bad = Some(InputFault::BadTable(4));
     let wide = Shdr {
         sh_entsize: 25,
@@ -267,7 +267,7 @@ fn a_section_of_relocations_is_told(rt: HostRuntime) {
         (beyond, bad),
     ];
     for (first, wanted) in cases {
-        assert_eq!(rt; first_told(rt.alloc(), first), Ok(wanted));
+        assert_eq!(rt; first_reported(rt.alloc(), first), Ok(wanted));
     }
 }
 
@@ -281,7 +281,7 @@ fn entries_are_read(rt: HostRuntime) -> Result<(), NoMemory> {
 }
 
 #[test]
-fn widths_are_told(rt: HostRuntime) {
+fn widths_are_reported(rt: HostRuntime) {
     for (code, width) in [
         (0, 0),
         (1, 8),

@@ -1,9 +1,9 @@
 //! Section tables and their answers by the rules: each check once, beside it its neighbour just inside the
-//! limit, and which of two faults is told.
+//! limit, and which of two faults is reported.
 
 ghost use Rattle.std.specs.Prelude.{◌+◌, ◌≤◌};
 
-use crate::headers::{NO_SECTION, NO_SECTIONS, Told, is_text};
+use crate::headers::{NO_SECTION, NO_SECTIONS, FileAnswers, is_text};
 use lk_elf::numbers::{
     ET_DYN, SHF_ALLOC, SHF_COMPRESSED, SHF_EXECINSTR, SHF_TLS, SHF_WRITE, SHT_HASH, SHT_NOBITS,
     SHT_PROGBITS, SHT_REL, SHT_STRTAB, SHT_SYMTAB_SHNDX, SHT_X86_64_UNWIND,
@@ -87,7 +87,7 @@ fn file(header: &Ehdr, text: &Shdr, titles: &Shdr) -> [u8; SIZE] {
 }
 
 /// The first fault of a file with this header and these sections.
-fn told(alloc: Global, header: &Ehdr, text: &Shdr, titles: &Shdr) -> Told {
+fn reported(alloc: Global, header: &Ehdr, text: &Shdr, titles: &Shdr) -> FileAnswers {
     let bytes = file(header, text, titles);
     let sections = read_sections(alloc, &bytes, header)?;
     match table_fault(&bytes, header, &sections) {
@@ -97,18 +97,18 @@ fn told(alloc: Global, header: &Ehdr, text: &Shdr, titles: &Shdr) -> Told {
 }
 
 /// The fault of a file with this header.
-fn header_told(alloc: Global, header: Ehdr) -> Told {
-    told(alloc, &header, &TEXT, &TITLES)
+fn header_reported(alloc: Global, header: Ehdr) -> FileAnswers {
+    reported(alloc, &header, &TEXT, &TITLES)
 }
 
 /// The fault of a file with this section 1.
-fn text_told(alloc: Global, text: Shdr) -> Told {
-    told(alloc, &HEADER, &text, &TITLES)
+fn text_reported(alloc: Global, text: Shdr) -> FileAnswers {
+    reported(alloc, &HEADER, &text, &TITLES)
 }
 
 /// The fault of a file with this section 2.
-fn titles_told(alloc: Global, text: Shdr, titles: Shdr) -> Told {
-    told(alloc, &HEADER, &text, &titles)
+fn titles_reported(alloc: Global, text: Shdr, titles: Shdr) -> FileAnswers {
+    reported(alloc, &HEADER, &text, &titles)
 }
 
 fn table(e_shoff: u64, e_shnum: u16) -> Ehdr {
@@ -163,7 +163,7 @@ fn kind(sh_name: u32, sh_type: u32, sh_flags: u64) -> Shdr {
 }
 
 #[test]
-fn a_table_is_told(rt: HostRuntime) {
+fn a_table_is_reported(rt: HostRuntime) {
     let bad = Some(InputFault::BadTable(0));
     let shared = Ehdr {
         e_type: ET_DYN,
@@ -184,12 +184,12 @@ fn a_table_is_told(rt: HostRuntime) {
         (titles_at(3), bad),
     ];
     for (header, wanted) in cases {
-        assert_eq!(rt; header_told(rt.alloc(), header), Ok(wanted));
+        assert_eq!(rt; header_reported(rt.alloc(), header), Ok(wanted));
     }
 }
 
 #[test]
-fn a_place_is_told(rt: HostRuntime) {
+fn a_place_is_reported(rt: HostRuntime) {
     let bad = Some(InputFault::BadTable(1));
     let cases = [
         (placed(SHT_PROGBITS, 64, 272), None),
@@ -200,20 +200,20 @@ fn a_place_is_told(rt: HostRuntime) {
         (placed(SHT_NOBITS, 64, u64::MAX), None),
     ];
     for (text, wanted) in cases {
-        assert_eq!(rt; text_told(rt.alloc(), text), Ok(wanted));
+        assert_eq!(rt; text_reported(rt.alloc(), text), Ok(wanted));
     }
 }
 
 #[test]
-fn an_alignment_is_told(rt: HostRuntime) {
+fn an_alignment_is_reported(rt: HostRuntime) {
     let bad = Some(InputFault::BadTable(1));
     for (alignment, wanted) in [(0, None), (3, bad), (1 << 20, None), (1 << 21, bad)] {
-        assert_eq!(rt; text_told(rt.alloc(), aligned(alignment)), Ok(wanted));
+        assert_eq!(rt; text_reported(rt.alloc(), aligned(alignment)), Ok(wanted));
     }
 }
 
 #[test]
-fn a_name_is_told(rt: HostRuntime) {
+fn a_name_is_reported(rt: HostRuntime) {
     let bad = Some(InputFault::BadName(1));
     let compressed = Some(InputFault::Compressed(1));
     let cases = [
@@ -225,7 +225,7 @@ fn a_name_is_told(rt: HostRuntime) {
         (ZDEBUG_NAME, None),
     ];
     for (name, wanted) in cases {
-        assert_eq!(rt; text_told(rt.alloc(), named(name)), Ok(wanted));
+        assert_eq!(rt; text_reported(rt.alloc(), named(name)), Ok(wanted));
     }
 }
 
@@ -235,11 +235,11 @@ fn a_name_may_be_closed_behind_its_table(rt: HostRuntime) {
         sh_size: 79,
         ..TITLES
     };
-    assert_eq!(rt; titles_told(rt.alloc(), named(OPEN_NAME), longer), Ok(None));
+    assert_eq!(rt; titles_reported(rt.alloc(), named(OPEN_NAME), longer), Ok(None));
 }
 
 #[test]
-fn a_kind_is_told(rt: HostRuntime) {
+fn a_kind_is_reported(rt: HostRuntime) {
     let refused = Some(InputFault::UnsupportedSection(1));
     let unknown = Some(InputFault::UnknownAlloc(1));
     let cases = [
@@ -258,12 +258,12 @@ fn a_kind_is_told(rt: HostRuntime) {
         (kind(TEXT_NAME, SHT_X86_64_UNWIND, SHF_ALLOC), None),
     ];
     for (text, wanted) in cases {
-        assert_eq!(rt; text_told(rt.alloc(), text), Ok(wanted));
+        assert_eq!(rt; text_reported(rt.alloc(), text), Ok(wanted));
     }
 }
 
 #[test]
-fn the_earlier_fault_of_a_section_is_told(rt: HostRuntime) {
+fn the_earlier_fault_of_a_section_is_reported(rt: HostRuntime) {
     let cut = Shdr {
         sh_size: 337,
         ..named(OPEN_NAME)
@@ -281,12 +281,12 @@ fn the_earlier_fault_of_a_section_is_told(rt: HostRuntime) {
         ),
     ];
     for (text, fault) in cases {
-        assert_eq!(rt; text_told(rt.alloc(), text), Ok(Some(fault)));
+        assert_eq!(rt; text_reported(rt.alloc(), text), Ok(Some(fault)));
     }
 }
 
 #[test]
-fn the_fault_of_the_earlier_section_is_told(rt: HostRuntime) {
+fn the_fault_of_the_earlier_section_is_reported(rt: HostRuntime) {
     let tilted = Shdr {
         sh_addralign: 3,
         ..TITLES
@@ -296,7 +296,7 @@ fn the_fault_of_the_earlier_section_is_told(rt: HostRuntime) {
         (kind(OPEN_NAME, SHT_REL, COMPRESSED), InputFault::BadName(1)),
     ];
     for (text, fault) in cases {
-        assert_eq!(rt; titles_told(rt.alloc(), text, tilted), Ok(Some(fault)));
+        assert_eq!(rt; titles_reported(rt.alloc(), text, tilted), Ok(Some(fault)));
     }
 }
 

@@ -79,7 +79,7 @@ const STRINGS: Shdr = Shdr {
     ..NO_SECTION
 };
 
-/// The section that tells of the stack, with these flags.
+/// The section that reports of the stack, with these flags.
 const fn stack(sh_flags: u64) -> Shdr {
     Shdr {
         sh_name: STACK_NAME,
@@ -167,19 +167,19 @@ fn pieces(alloc: Global) -> Result<PieceInfoList, NoMemory> {
 }
 
 #[test]
-fn pieces_are_told(rt: HostRuntime) -> Result<(), NoMemory> {
-    let told = pieces_of(rt.alloc(), &FILE, &HEADER, &sections())?;
-    assert_eq!(rt; told, pieces(rt.alloc())?);
+fn pieces_are_reported(rt: HostRuntime) -> Result<(), NoMemory> {
+    let reported = pieces_of(rt.alloc(), &FILE, &HEADER, &sections())?;
+    assert_eq!(rt; reported, pieces(rt.alloc())?);
     Ok(())
 }
 
 #[test]
 fn a_summary_says_what_the_file_is(rt: HostRuntime) -> Result<(), NoMemory> {
-    let told = summary(rt.alloc())?;
-    assert_eq!(rt; told.kind, Kind::Object);
-    assert!(rt; told.soname.as_slice().is_empty());
-    assert!(rt; told.exec_stack);
-    assert_eq!(rt; told.pieces.as_slice().len(), 5);
+    let reported = summary(rt.alloc())?;
+    assert_eq!(rt; reported.kind, Kind::Object);
+    assert!(rt; reported.soname.as_slice().is_empty());
+    assert!(rt; reported.exec_stack);
+    assert_eq!(rt; reported.pieces.as_slice().len(), 5);
     Ok(())
 }
 
@@ -199,16 +199,16 @@ fn second(alloc: Global) -> Result<Symbol, NoMemory> {
 
 #[test]
 fn a_summary_has_the_symbols(rt: HostRuntime) -> Result<(), NoMemory> {
-    let told = summary(rt.alloc())?;
+    let reported = summary(rt.alloc())?;
     let wanted = [second(rt.alloc())?];
-    assert_eq!(rt; told.globals.as_slice(), wanted.as_slice());
+    assert_eq!(rt; reported.globals.as_slice(), wanted.as_slice());
     Ok(())
 }
 
 #[test]
 fn a_summary_has_the_groups(rt: HostRuntime) -> Result<(), NoMemory> {
-    let told = summary(rt.alloc())?;
-    let groups = told.groups.as_slice();
+    let reported = summary(rt.alloc())?;
+    let groups = reported.groups.as_slice();
     assert_eq!(rt; groups.len(), 1);
     assert!(rt; groups[0].signature.as_slice() == b"sig".as_slice());
     assert!(rt; groups[0].members.as_slice() == [5u32].as_slice());

@@ -1,9 +1,9 @@
 //! Symbol tables and their answers by the rules: each check once, beside it its neighbour just inside the
-//! limit, and which of two faults is told.
+//! limit, and which of two faults is reported.
 
 ghost use Rattle.std.specs.Prelude.{◌+◌, ◌≤◌, ◌<◌, ◌^◌, length};
 
-use crate::headers::{NO_SECTION, NO_SYMBOL, Told};
+use crate::headers::{NO_SECTION, NO_SYMBOL, FileAnswers};
 use lk_elf::numbers::{
     SHF_ALLOC, SHF_EXECINSTR, SHF_TLS, SHF_WRITE, SHN_ABS, SHN_COMMON, SHN_UNDEF, SHN_XINDEX,
     SHT_PROGBITS, SHT_STRTAB, SHT_SYMTAB,
@@ -102,7 +102,7 @@ fn sections(table: &Shdr, fifth: &Shdr) -> [Shdr; 6] {
 }
 
 /// The first fault of a symbol table and of its symbols.
-fn told(alloc: Global, table: &Shdr, fifth: &Shdr, local: &Sym, global: &Sym) -> Told {
+fn reported(alloc: Global, table: &Shdr, fifth: &Shdr, local: &Sym, global: &Sym) -> FileAnswers {
     let bytes = file(local, global);
     let sections = sections(table, fifth);
     let symbols = read_symbols(alloc, &bytes, &sections)?;
@@ -113,18 +113,18 @@ fn told(alloc: Global, table: &Shdr, fifth: &Shdr, local: &Sym, global: &Sym) ->
 }
 
 /// The fault of a file with this section 3.
-fn table_told(alloc: Global, table: Shdr) -> Told {
-    told(alloc, &table, &TEXT, &LOCAL, &GLOBAL)
+fn table_reported(alloc: Global, table: Shdr) -> FileAnswers {
+    reported(alloc, &table, &TEXT, &LOCAL, &GLOBAL)
 }
 
 /// The fault of a file with this symbol 1.
-fn local_told(alloc: Global, local: Sym) -> Told {
-    told(alloc, &TABLE, &TEXT, &local, &GLOBAL)
+fn local_reported(alloc: Global, local: Sym) -> FileAnswers {
+    reported(alloc, &TABLE, &TEXT, &local, &GLOBAL)
 }
 
 /// The fault of a file with this symbol 2.
-fn global_told(alloc: Global, global: Sym) -> Told {
-    told(alloc, &TABLE, &TEXT, &LOCAL, &global)
+fn global_reported(alloc: Global, global: Sym) -> FileAnswers {
+    reported(alloc, &TABLE, &TEXT, &LOCAL, &global)
 }
 
 fn entries_of(sh_entsize: u64) -> Shdr {
@@ -178,7 +178,7 @@ fn common(st_value: u64) -> Sym {
 }
 
 #[test]
-fn a_symbol_table_is_told(rt: HostRuntime) {
+fn a_symbol_table_is_reported(rt: HostRuntime) {
     let bad = Some(InputFault::BadTable(3));
     let cases = [
         (TABLE, None),
@@ -195,12 +195,12 @@ fn a_symbol_table_is_told(rt: HostRuntime) {
         (from_number(3), Some(InputFault::BadSymbol(2))),
     ];
     for (table, wanted) in cases {
-        assert_eq!(rt; table_told(rt.alloc(), table), Ok(wanted));
+        assert_eq!(rt; table_reported(rt.alloc(), table), Ok(wanted));
     }
 }
 
 #[test]
-fn a_symbol_name_is_told(rt: HostRuntime) {
+fn a_symbol_name_is_reported(rt: HostRuntime) {
     let bad = Some(InputFault::BadSymbol(2));
     let cases = [
         (4, None),
@@ -210,7 +210,7 @@ fn a_symbol_name_is_told(rt: HostRuntime) {
         (u32::MAX, bad),
     ];
     for (name, wanted) in cases {
-        assert_eq!(rt; global_told(rt.alloc(), named(name)), Ok(wanted));
+        assert_eq!(rt; global_reported(rt.alloc(), named(name)), Ok(wanted));
     }
 }
 
@@ -220,11 +220,11 @@ fn a_local_symbol_may_be_nameless(rt: HostRuntime) {
         st_name: EMPTY_NAME,
         ..LOCAL
     };
-    assert_eq!(rt; local_told(rt.alloc(), nameless), Ok(None));
+    assert_eq!(rt; local_reported(rt.alloc(), nameless), Ok(None));
 }
 
 #[test]
-fn a_symbol_section_is_told(rt: HostRuntime) {
+fn a_symbol_section_is_reported(rt: HostRuntime) {
     let bad = Some(InputFault::BadSymbol(2));
     let cases = [
         (SHN_XINDEX, Some(InputFault::UnsupportedSymbol(2))),
@@ -236,12 +236,12 @@ fn a_symbol_section_is_told(rt: HostRuntime) {
         (SHN_UNDEF, None),
     ];
     for (section, wanted) in cases {
-        assert_eq!(rt; global_told(rt.alloc(), global(0x10, section)), Ok(wanted));
+        assert_eq!(rt; global_reported(rt.alloc(), global(0x10, section)), Ok(wanted));
     }
 }
 
 #[test]
-fn a_binding_is_told(rt: HostRuntime) {
+fn a_binding_is_reported(rt: HostRuntime) {
     let refused = Some(InputFault::UnsupportedSymbol(2));
     let cases = [
         (0x00, Some(InputFault::BadSymbol(2))),
@@ -251,12 +251,12 @@ fn a_binding_is_told(rt: HostRuntime) {
         (0x1a, refused),
     ];
     for (info, wanted) in cases {
-        assert_eq!(rt; global_told(rt.alloc(), global(info, 1)), Ok(wanted));
+        assert_eq!(rt; global_reported(rt.alloc(), global(info, 1)), Ok(wanted));
     }
 }
 
 #[test]
-fn a_common_block_is_told(rt: HostRuntime) {
+fn a_common_block_is_reported(rt: HostRuntime) {
     let bad = Some(InputFault::BadSymbol(2));
     let cases = [
         (common(1), None),
@@ -270,12 +270,12 @@ fn a_common_block_is_told(rt: HostRuntime) {
         ),
     ];
     for (block, wanted) in cases {
-        assert_eq!(rt; global_told(rt.alloc(), block), Ok(wanted));
+        assert_eq!(rt; global_reported(rt.alloc(), block), Ok(wanted));
     }
 }
 
 #[test]
-fn a_thread_local_symbol_is_told(rt: HostRuntime) {
+fn a_thread_local_symbol_is_reported(rt: HostRuntime) {
     let bad = Some(InputFault::BadSymbol(2));
     let cases = [
         (global(0x16, 2), None),
@@ -285,12 +285,12 @@ fn a_thread_local_symbol_is_told(rt: HostRuntime) {
         (global(0x16, SHN_UNDEF), None),
     ];
     for (symbol, wanted) in cases {
-        assert_eq!(rt; global_told(rt.alloc(), symbol), Ok(wanted));
+        assert_eq!(rt; global_reported(rt.alloc(), symbol), Ok(wanted));
     }
 }
 
 #[test]
-fn a_local_symbol_is_told(rt: HostRuntime) {
+fn a_local_symbol_is_reported(rt: HostRuntime) {
     let bad = Some(InputFault::BadSymbol(1));
     let refused = Some(InputFault::UnsupportedSymbol(1));
     let cases = [
@@ -301,11 +301,11 @@ fn a_local_symbol_is_told(rt: HostRuntime) {
         (local(0x06, SHN_UNDEF), bad),
     ];
     for (symbol, wanted) in cases {
-        assert_eq!(rt; local_told(rt.alloc(), symbol), Ok(wanted));
+        assert_eq!(rt; local_reported(rt.alloc(), symbol), Ok(wanted));
     }
 }
 
-/// A symbol 2 of a section whose number stands elsewhere, and whose name has no end.
+/// A symbol 2 of a section whose number is elsewhere, and whose name has no end.
 const OPEN: Sym = Sym {
     st_name: OPEN_NAME,
     st_shndx: SHN_XINDEX,
@@ -313,7 +313,7 @@ const OPEN: Sym = Sym {
 };
 
 #[test]
-fn the_earlier_fault_of_a_symbol_is_told(rt: HostRuntime) {
+fn the_earlier_fault_of_a_symbol_is_reported(rt: HostRuntime) {
     let nameless = Sym {
         st_info: 0x30,
         ..named(EMPTY_NAME)
@@ -333,12 +333,12 @@ fn the_earlier_fault_of_a_symbol_is_told(rt: HostRuntime) {
         (block, unsupported),
     ];
     for (symbol, fault) in cases {
-        assert_eq!(rt; global_told(rt.alloc(), symbol), Ok(Some(fault)));
+        assert_eq!(rt; global_reported(rt.alloc(), symbol), Ok(Some(fault)));
     }
 }
 
 #[test]
-fn the_earlier_fault_of_symbols_is_told(rt: HostRuntime) {
+fn the_earlier_fault_of_symbols_is_reported(rt: HostRuntime) {
     let cases = [
         (TABLE, TEXT, local(0x06, 1), InputFault::BadSymbol(1)),
         (
@@ -351,7 +351,7 @@ fn the_earlier_fault_of_symbols_is_told(rt: HostRuntime) {
     ];
     for (table, fifth, local, fault) in cases {
         assert_eq!(rt;
-            told(rt.alloc(), &table, &fifth, &local, &OPEN),
+            reported(rt.alloc(), &table, &fifth, &local, &OPEN),
             Ok(Some(fault))
         );
     }

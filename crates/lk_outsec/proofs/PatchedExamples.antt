@@ -1,4 +1,4 @@
--- Pieces stand anywhere in some sections and not in others, so no answer that is always the same is
+-- Pieces are anywhere in some sections and not in others, so no answer that is always the same is
 -- `is_patched`.
 use Rattle.std.proofs.Common.{◌≡◌, refl}
 use Rattle.std.specs.Prelude.{codes, false, true}

@@ -46,8 +46,8 @@ is_same a b e = grind (arith, nat_tests, e)
 is_other : (a b : ℕ) → (a ≡ b → ⊥) → (a == b) ≡ false
 is_other a b n = grind (arith, nat_tests, n)
 
-tells : (a b : ℕ) → (a == b) ≡ true → a ≡ b
-tells a b e = grind (arith, nat_tests)
+reports : (a b : ℕ) → (a == b) ≡ true → a ≡ b
+reports a b e = grind (arith, nat_tests)
 
 apart : (a b : ℕ) → (a == b) ≡ false → a ≡ b → ⊥
 apart a b e same = grind (arith, nat_tests)
@@ -79,7 +79,7 @@ first key keys a (suc m) rest low high = go (section_rank key == a) refl (λ lat
     go : (b : Bool) → (section_rank key == a) ≡ b → (a < section_rank key → from_rank (a + 1) m (key ∷ keys) ≡ key ∷ from_rank (a + 1) m keys) → from_rank a (suc m) (key ∷ keys) ≡ key ∷ from_rank a (suc m) keys
     go true e later =
         ap (λ b. cond b (key ∷ filter (has a) keys) (filter (has a) keys) ++ from_rank (a + 1) m (key ∷ keys)) e
-        ∙ ap (λ others. (key ∷ filter (has a) keys) ++ others) (passed key keys (a + 1) m (let same = tells (section_rank key) a e in omega (arith, same)))
+        ∙ ap (λ others. (key ∷ filter (has a) keys) ++ others) (passed key keys (a + 1) m (let same = reports (section_rank key) a e in omega (arith, same)))
     go false e later =
         let other = apart (section_rank key) a e in
         let none = above a keys (weaker (suc a) (section_rank key) keys (omega (arith, other)) rest) in
@@ -120,7 +120,7 @@ found rank (k ∷ keys) key rest e = go (has rank k) refl (λ later. found rank 
     go : (b : Bool) → has rank k ≡ b → (filter (has rank) keys ≡ key ∷ rest → section_rank key ≡ rank) → section_rank key ≡ rank
     go true t later =
         let e' : k ∷ filter (has rank) keys ≡ key ∷ rest = sym (ap (λ b. cond b (k ∷ filter (has rank) keys) (filter (has rank) keys)) t) ∙ e in
-        let same : k ≡ key = cc in ap section_rank (sym same) ∙ tells (section_rank k) rank t
+        let same : k ≡ key = cc in ap section_rank (sym same) ∙ reports (section_rank k) rank t
     go false t later = later (sym (ap (λ b. cond b (k ∷ filter (has rank) keys) (filter (has rank) keys)) t) ∙ e)
 
 kept : (rank : ℕ) (xs ys : List SectionKey) → IsStableByKey section_rank nat_cmp xs ys → filter (has rank) ys ≡ filter (has rank) xs
@@ -142,7 +142,7 @@ kept_from a zero xs ys stable = refl
 kept_from a (suc m) xs ys stable =
     ap (λ here. here ++ from_rank (a + 1) m ys) (kept a xs ys stable) ∙ ap (λ rest. filter (has a) xs ++ rest) (kept_from (a + 1) m xs ys stable)
 
--- keys that were sorted by rank, with ties in their order, stand in the order of the image
+-- keys that were sorted by rank, with ties in their order, are in the order of the image
 pub sorted_in_order : (xs ys : List SectionKey) → IsNonDecreasingBy section_rank ys → IsStableByKey section_rank nat_cmp xs ys → ys ≡ in_order xs
 unfolding in_order
 sorted_in_order xs ys up stable = sym (in_place ys (rises ys up)) ∙ kept_from 0 31 xs ys stable

@@ -13,7 +13,7 @@ use std::alloc::Global;
 /// and hold no bytes of the program, and the two notes to the linker itself.
 ///
 /// # Errors
-/// Want of memory.
+/// Out of memory.
 pub fn key_for(
     alloc: Global,
     name: &Name,

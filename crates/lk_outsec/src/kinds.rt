@@ -12,7 +12,7 @@ pub(crate) fn is_name(name: &[u8], other: &[u8]) -> bool
     name == other
 }
 
-/// Whether pieces stand anywhere in the section of a class and a name.
+/// Whether pieces are anywhere in the section of a class and a name.
 #[tactic(auto, unfolding(lk_model::specs::SectionKeys::is_patched))]
 fn is_patched_by(class: Class, name: &[u8]) -> bool
     ensures { result ≡ is_patched (named name.now class) }
@@ -33,7 +33,7 @@ fn is_patched_by(class: Class, name: &[u8]) -> bool
     }
 }
 
-/// Whether pieces stand anywhere in the section, with room to grow, so that an update can patch it; any
+/// Whether pieces are anywhere in the section, with room to grow, so that an update can patch it; any
 /// other section is the sequence of its pieces, or a table.
 pub fn is_patched(key: &SectionKey) -> bool
     ensures { result ≡ is_patched key.now }

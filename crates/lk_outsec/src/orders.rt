@@ -22,7 +22,7 @@ fn sort_by_rank(keys: &mut Vec<SectionKey>) -> Result<(), NoMemory>
 /// came. Takes n log n steps for n keys.
 ///
 /// # Errors
-/// Want of memory.
+/// Out of memory.
 pub fn in_order(alloc: Global, keys: &SectionKeyList) -> Result<SectionKeyList, NoMemory>
     ensures { IfOk result (λ ordered. ordered ≡ in_order keys.now) }
 {

@@ -1,4 +1,4 @@
--- This project's own: the output file held in memory, exactly.
+-- This project's own: the output file kept in memory, exactly.
 use Rattle.std.specs.Prelude.{◌≡◌, ◌++◌, ◌∷◌, [], ℕ, List, Some, length, take, drop}
 use Rattle.lk_report.specs.declared.sinks.Answer.{Answer}
 use Rattle.lk_report.specs.declared.sinks.Answer.TheVariants as answer
@@ -14,7 +14,7 @@ pub record DeviceInMemory : Type 0 where
   pub written : List (ℕ × ℕ)
   pub calls : Calls
 
--- a device that is never told to fail: its file, and the calls that found no memory
+-- a device that is never reported to fail: its file, and the calls that found no memory
 pub record SureDeviceInMemory : Type 0 where
   pub bytes : List ℕ
   pub written : List (ℕ × ℕ)
@@ -45,7 +45,7 @@ ReadAtInMemory old at into got answer.Done new =
 ReadAtInMemory old at into got answer.Failed new =
     OnlyLooks old answer.Failed new × (got ≡ into)
 
--- a write that fails, by its number or for want of memory, changes nothing but the counts
+-- a write that fails, by its number or for out of memory, changes nothing but the counts
 abbrev pub WriteAtInMemory : DeviceInMemory → ℕ → List ℕ → Answer → DeviceInMemory → Type 0
 WriteAtInMemory old at bytes answer.Done new =
     (FailsNext old.calls → ⊥)
@@ -60,7 +60,7 @@ CutInMemory old n answer.Done new =
 CutInMemory old n answer.Failed new =
     FailsNext old.calls × (new ≡ record old { calls = call_failed old.calls })
 
--- the same calls of a device that is never told to fail
+-- the same calls of a device that is never reported to fail
 abbrev pub SureLength : SureDeviceInMemory → LengthAnswer → SureDeviceInMemory → Type 0
 SureLength old (known.Known n) new = (new ≡ old) × (n ≡ length old.bytes)
 SureLength old known.Failed new = ⊥

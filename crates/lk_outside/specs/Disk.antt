@@ -12,12 +12,12 @@ pub record Stored : Type 0 where
   pub bytes : List ℕ
   pub written : List (ℕ × ℕ)
 
--- a device: what it tells of its file, which may be nothing, and its count of faults
+-- a device: what it reports of its file, which may be nothing, and its count of faults
 pub record Disk : Type 0 where
   pub stored : Option Stored
   pub faults : ℕ
 
--- where the file is told: a range lies in it; a place or a length is at most its end
+-- where the file is reported: a range lies in it; a place or a length is at most its end
 abbrev pub RangeLiesIn : ℕ → ℕ → Disk → Type 0
 RangeLiesIn at size d = ForSome d.stored (λ s. at + size ≤ length s.bytes)
 

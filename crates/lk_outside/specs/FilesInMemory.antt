@@ -1,4 +1,4 @@
--- This project's own: input files held in memory, exactly.
+-- This project's own: input files kept in memory, exactly.
 use Rattle.std.specs.Prelude.{◌≡◌, ◌++◌, ◌∷◌, [], ◌⊎◌, ℕ, List, Option, Some, None, option_map, find}
 use Rattle.std.specs.Str.{bytes_eq}
 use Rattle.lk_report.specs.FileMap.{FileRow, FileMap}
@@ -9,7 +9,7 @@ use Rattle.lk_outside.specs.declared.files.ReadAnswer.TheVariants as read
 use Rattle.lk_outside.specs.declared.calls.Calls.{Calls}
 use Rattle.lk_outside.specs.declared.file_entries.FileEntry.{FileEntry}
 use Rattle.lk_outside.specs.Counts.{counted, FailsNext, call_made, call_failed}
-use Rattle.lk_outside.specs.Held.{Held}
+use Rattle.lk_outside.specs.FilesState.{FilesState}
 
 -- the files, the paths given to `stat` and to `read`, the path of the last call that failed, the
 -- calls, and the count of misses
@@ -38,16 +38,16 @@ entry_at path entries = find (λ e. bytes_eq e.path path) entries
 abbrev pub map_of : List FileEntry → FileMap
 map_of entries path = option_map row_of (entry_at path entries)
 
-abbrev pub held_of : FilesInMemory → Held
-held_of m =
+abbrev pub slot_content_of : FilesInMemory → FilesState
+slot_content_of m =
     record {
       known = Some (record { map = map_of m.entries; stats = m.stats; reads = m.reads; failed = m.failed });
       faults = m.calls.faults;
       misses = m.misses;
     }
 
-abbrev pub sure_held_of : SureFilesInMemory → Held
-sure_held_of m =
+abbrev pub sure_state_of : SureFilesInMemory → FilesState
+sure_state_of m =
     record {
       known = Some (record { map = map_of m.entries; stats = m.stats; reads = m.reads; failed = None });
       faults = 0;

@@ -1,4 +1,4 @@
-pub mod Held
+pub mod FilesState
 pub mod Disk
 pub mod Counts
 pub mod FilesInMemory

@@ -1,4 +1,4 @@
--- This project's own: text held in memory, exactly.
+-- This project's own: text kept in memory, exactly.
 use Rattle.std.specs.Prelude.{◌≡◌, ◌++◌, ℕ, List, Some}
 use Rattle.lk_report.specs.Spoken.{Spoken}
 use Rattle.lk_report.specs.declared.sinks.Answer.{Answer}
@@ -11,7 +11,7 @@ pub record SinkInMemory : Type 0 where
   pub bytes : List ℕ
   pub calls : Calls
 
--- a sink that is never told to fail: the bytes, and the puts that found no memory
+-- a sink that is never reported to fail: the bytes, and the puts that found no memory
 pub record SureSinkInMemory : Type 0 where
   pub bytes : List ℕ
   pub faults : ℕ

@@ -26,7 +26,7 @@ impl Calls {
         }
     }
 
-    /// Counts one more call, and tells whether it is the one that is to fail.
+    /// Counts one more call, and reports whether it is the one that is to fail.
     pub fn next_fails(&mut self) -> bool
         ensures answer { IsTrue result ↔ FailsNext self.old }
         ensures counted { self.new ≡ call_made self.old }

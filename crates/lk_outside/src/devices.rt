@@ -1,4 +1,4 @@
-//! Where the image goes: the trait `Device`, which stands for the one output file.
+//! Where the image goes: the trait `Device`, which is taken for the one output file.
 
 ghost use Rattle.std.specs.Prelude.{length as list_length};
 ghost use Rattle.lk_outside.specs.Disk.{Disk, RangeLiesIn, IsAtMostEnd, LengthGives, ReadAtGives, WriteAtGives, CutGives, SyncGives};
@@ -14,11 +14,11 @@ pub enum LengthAnswer {
     Failed,
 }
 
-/// The output file. Its meaning is the file's bytes and the ranges written, where it tells these,
+/// The output file. Its meaning is the file's bytes and the ranges written, where it reports these,
 /// and a count of faults that never falls. Places and lengths are in bytes from the file's start.
 ///
-/// A device that tells its bytes asks its callers for ranges that lie in the file, so that no caller
-/// makes a fault by itself. One that tells nothing answers Failed there and counts it.
+/// A device that reports its bytes asks its callers for ranges that lie in the file, so that no caller
+/// makes a fault by itself. One that reports nothing answers Failed there and counts it.
 pub trait Device {
     /// What the file holds, which ranges were written, and how often a call failed.
     ghost disk: { Self → Disk };

@@ -1,4 +1,4 @@
-//! One file that is held in memory.
+//! One file that is kept in memory.
 
 use lk_report::{Bytes, Name, Stamp};
 

@@ -1,6 +1,6 @@
 //! Where the input files come from: the trait `Files` and its answers.
 
-ghost use Rattle.lk_outside.specs.Held.{Held, StatGives, ReadGives};
+ghost use Rattle.lk_outside.specs.FilesState.{FilesState, StatGives, ReadGives};
 
 use lk_report::{Bytes, Name, Stamp};
 
@@ -31,16 +31,16 @@ pub enum ReadAnswer {
 }
 
 /// The input files. Its meaning is a map from paths to bytes and stamps with the paths asked for,
-/// where it tells these, and two counts that never fall: the faults and the misses.
+/// where it reports these, and two counts that never fall: the faults and the misses.
 pub trait Files {
     /// What the files hold, which paths were asked for, and the counts.
-    ghost held: { Self → Held };
+    ghost state: { Self → FilesState };
 
     /// Looks a path up without reading the file.
     fn stat(&mut self, path: &Name) -> StatAnswer
-        ensures { StatGives (held self.old) path.now result (held self.new) };
+        ensures { StatGives (state self.old) path.now result (state self.new) };
 
     /// Reads the whole file of a path.
     fn read(&mut self, path: &Name) -> ReadAnswer
-        ensures { ReadGives (held self.old) path.now result (held self.new) };
+        ensures { ReadGives (state self.old) path.now result (state self.new) };
 }

@@ -2,7 +2,7 @@
 
 ghost use Rattle.std.specs.Prelude.{◌≡◌, None, Some, MatchResult};
 ghost use Rattle.lk_outside.specs.Counts.{counted};
-ghost use Rattle.lk_outside.specs.Host.{untold_disk};
+ghost use Rattle.lk_outside.specs.Host.{unknown_disk};
 
 use crate::devices::{Device, LengthAnswer};
 use crate::host_files::path_text;
@@ -12,10 +12,10 @@ use std::io;
 use std::io::ErrorKind;
 use std::os::unix::fs::{FileExt, OpenOptionsExt};
 
-/// The output file of the host. It tells nothing of it, and counts its failures.
+/// The output file of the host. It reports nothing of it, and counts its failures.
 ///
 /// An absent file has length 0 and is made at the first write, with the mode 0777 less the umask, so
-/// that an image can be run; a file that stands there keeps its mode. A range or a cut that lies
+/// that an image can be run; a file that is there keeps its mode. A range or a cut that lies
 /// outside the file is a failure.
 #[derive(Drop)]
 pub struct HostDevice {
@@ -164,7 +164,7 @@ fn outside() -> io::Error {
 }
 
 impl Device for HostDevice {
-    ghost disk = { λ d. untold_disk d.faults };
+    ghost disk = { λ d. unknown_disk d.faults };
 
     fn length(&mut self) -> LengthAnswer {
         match self.file.length() {

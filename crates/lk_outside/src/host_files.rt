@@ -1,7 +1,7 @@
 //! The host's input files: a thin edge over std's files, which is trusted and tested alone.
 
 ghost use Rattle.std.specs.Prelude.{◌≡◌, None};
-ghost use Rattle.lk_outside.specs.Host.{untold_held};
+ghost use Rattle.lk_outside.specs.Host.{unknown_state};
 
 use crate::files::{Files, ReadAnswer, StatAnswer};
 use crate::host_times::nanoseconds_of;
@@ -11,9 +11,9 @@ use std::io::{ErrorKind, Read};
 use std::os::unix::fs::MetadataExt;
 use std::{fs, io, str};
 
-/// The files of the host. It tells nothing of them, and counts its failures and misses.
+/// The files of the host. It reports nothing of them, and counts its failures and misses.
 ///
-/// Only a path at which no file stands is Absent. A folder, a missing permission, a path with a
+/// Only a path at which no file is is Absent. A folder, a missing permission, a path with a
 /// part that is no folder and a path that is no UTF-8 text are failures.
 #[derive(Drop, Debug)]
 pub struct HostFiles {
@@ -52,7 +52,7 @@ pub(crate) fn path_text(path: &Name) -> io::Result<&str> {
     }
 }
 
-/// Whether the error is this process's own want of memory, and not an answer of the system.
+/// Whether the error is this process's own out of memory, and not an answer of the system.
 fn is_out_of_memory(error: &io::Error) -> bool {
     error.kind() == ErrorKind::OutOfMemory && error.raw_os_error().is_none()
 }
@@ -86,7 +86,7 @@ fn bytes_at(rt: &HostRuntime, path: &Name) -> io::Result<Bytes> {
 }
 
 impl Files for HostFiles {
-    ghost held = { λ h. untold_held h.faults h.misses };
+    ghost state = { λ h. unknown_state h.faults h.misses };
 
     fn stat(&mut self, path: &Name) -> StatAnswer {
         match stamp_at(&self.rt, path) {

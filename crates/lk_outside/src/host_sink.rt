@@ -1,12 +1,12 @@
 //! The host's standard output: a thin edge over std's, which is trusted and tested alone.
 
 ghost use Rattle.std.specs.Prelude.{◌≡◌, None};
-ghost use Rattle.lk_outside.specs.Host.{untold_spoken};
+ghost use Rattle.lk_outside.specs.Host.{unknown_spoken};
 
 use lk_report::{Answer, Sink};
 use std::io;
 
-/// The standard output. It tells nothing of what was put, and counts its failures.
+/// The standard output. It reports nothing of what was put, and counts its failures.
 #[derive(Drop, Debug)]
 pub struct HostSink {
     rt: HostRuntime,
@@ -35,7 +35,7 @@ impl HostSink {
 }
 
 impl Sink for HostSink {
-    ghost spoken = { λ s. untold_spoken s.faults };
+    ghost spoken = { λ s. unknown_spoken s.faults };
 
     fn put(&mut self, bytes: &[u8]) -> Answer {
         match self.rt.write_all(bytes) {

@@ -1,16 +1,16 @@
 //! The outside of the linker: input files, the output file, text, and the gate of the tasks.
 //!
 //! The layers above meet all of these through traits. What comes in are paths and ranges of bytes;
-//! what goes out are answers by cases. The contracts cite what an object holds: `Held` in
+//! what goes out are answers by cases. The contracts cite what an object holds: `FilesState` in
 //! specs/Held.antt for the files, `Disk` in specs/Disk.antt for the output, and lk_report's `Spoken`
 //! for text.
 //!
 //! Callers rely on one law: a call answers Failed only where the object's count of faults rose in
 //! that call, and any other answer leaves the count as it was. So an answer that names a fault can
-//! be held against a count.
+//! be kept against a count.
 //!
-//! Objects in memory tell all that they hold, and can be told to fail at a call (the Sure ones fail
-//! for want of memory alone). The host's objects are a thin edge over std's files and standard
+//! Objects in memory tell all that they hold, and can be reported to fail at a call (the Sure ones fail
+//! for out of memory alone). The host's objects are a thin edge over std's files and standard
 //! output, which is trusted: they tell nothing and count their failures.
 #![tactic(auto)]
 

@@ -1,4 +1,4 @@
-//! The output file held in memory.
+//! The output file kept in memory.
 
 ghost use Rattle.std.specs.Prelude.{◌≡◌, ◌≤◌, ◌+◌, ◌++◌, ◌∷◌, [], None, Some, OnOk, OnErr, length as list_length};
 ghost use Rattle.lk_outside.specs.Disk.{RangeLiesIn, IsAtMostEnd, LengthGives, ReadAtGives, WriteAtGives, CutGives, SyncGives, patched};
@@ -10,7 +10,7 @@ use lk_report::{Answer, Bytes, NoMemory};
 use std::alloc::Global;
 use std::marker::Model;
 
-/// An output file that is held in memory, and can be told to fail at a call.
+/// An output file that is kept in memory, and can be reported to fail at a call.
 #[derive(Drop, Debug)]
 pub struct MemoryDevice {
     bytes: Vec<u8>,
@@ -58,7 +58,7 @@ impl MemoryDevice {
     }
 }
 
-/// Replaces the bytes from this place on, past the end too. Unchanged after want of memory.
+/// Replaces the bytes from this place on, past the end too. Unchanged after out of memory.
 fn patch(file: &mut Vec<u8>, at: usize, bytes: &[u8]) -> Result<(), NoMemory>
     requires { at ≤ list_length file.old.items }
     ensures patched { OnOk result (file.new.items ≡ patched at bytes.now file.old.items) }
@@ -141,7 +141,7 @@ impl Device for MemoryDevice {
 }
 
 impl MemoryDevice {
-    /// Writes the bytes and notes the range. Unchanged after want of memory.
+    /// Writes the bytes and notes the range. Unchanged after out of memory.
     fn write(&mut self, at: u64, bytes: &[u8]) -> Result<(), NoMemory>
         requires { at ≤ list_length self.old.bytes }
         ensures written { OnOk result (self.new ≡ record self.old {

@@ -1,6 +1,6 @@
-//! Input files held in memory.
+//! Input files kept in memory.
 //!
-//! The files stand in one vector, and a path is looked for from its start: the time of a call grows
+//! The files are in one vector, and a path is looked for from its start: the time of a call grows
 //! with the number of files. These are for tests and examples; the host's files are looked up by
 //! the system.
 
@@ -8,8 +8,8 @@ ghost use Rattle.std.specs.Prelude.{◌≡◌, ◌++◌, ◌∷◌, [], ◌^◌,
 ghost use Rattle.std.specs.Option.{option_copied};
 ghost use Rattle.std.specs.Str.{bytes_eq};
 ghost use Rattle.lk_outside.specs.Counts.{counted};
-ghost use Rattle.lk_outside.specs.Held.{StatGives, ReadGives};
-ghost use Rattle.lk_outside.specs.FilesInMemory.{row_of, entry_at, held_of, StatInMemory, ReadInMemory, SetsRow};
+ghost use Rattle.lk_outside.specs.FilesState.{StatGives, ReadGives};
+ghost use Rattle.lk_outside.specs.FilesInMemory.{row_of, entry_at, slot_content_of, StatInMemory, ReadInMemory, SetsRow};
 
 use crate::calls::Calls;
 use crate::file_entries::FileEntry;
@@ -18,7 +18,7 @@ use lk_report::{Bytes, List, Name, NameList, NoMemory, Stamp};
 use std::alloc::Global;
 use std::marker::Model;
 
-/// Files that are held in memory, and can be told to fail at a call.
+/// Files that are kept in memory, and can be reported to fail at a call.
 #[derive(Drop, Debug)]
 pub struct MemoryFiles {
     alloc: Global,
@@ -96,7 +96,7 @@ impl MemoryFiles {
     }
 }
 
-/// The file of this path, the first that stands for it.
+/// The file of this path, the first that is taken for it.
 fn entry_of<'a>(entries: &'a [FileEntry], path: &Name) -> Option<&'a FileEntry>
     ensures { option_copied result ≡ entry_at path.now entries.now }
 {
@@ -118,7 +118,7 @@ fn put_entry(entries: &mut Vec<FileEntry>, entry: FileEntry) -> Result<(), NoMem
     }
 }
 
-/// Puts a file at the end. Unchanged after want of memory.
+/// Puts a file at the end. Unchanged after out of memory.
 fn append_entry(entries: &mut Vec<FileEntry>, entry: FileEntry) -> Result<(), NoMemory>
     ensures appended { OnOk result (entries.new.items ≡ entries.old.items ++ entry ∷ []) }
     ensures unchanged { OnErr result (entries.new.items ≡ entries.old.items) }
@@ -129,14 +129,14 @@ fn append_entry(entries: &mut Vec<FileEntry>, entry: FileEntry) -> Result<(), No
     }
 }
 
-/// Where the file of this path stands.
+/// Where the file of this path is.
 fn place_of(entries: &Vec<FileEntry>, path: &Name) -> Option<usize>
     ensures { result ≡ position (λ e. bytes_eq e.path path.now) entries.now.items }
 {
     entries.iter().position(|entry| entry.path == *path)
 }
 
-/// Puts a copy of the path at the end of the list. Unchanged after want of memory.
+/// Puts a copy of the path at the end of the list. Unchanged after out of memory.
 fn note(list: &mut NameList, alloc: Global, path: &Name) -> Result<(), NoMemory>
     ensures noted { OnOk result (list.new ≡ list.old ++ path.now ∷ []) }
     ensures unchanged { OnErr result (list.new ≡ list.old) }
@@ -145,7 +145,7 @@ fn note(list: &mut NameList, alloc: Global, path: &Name) -> Result<(), NoMemory>
 }
 
 impl MemoryFiles {
-    /// Notes that the call of this path failed, and counts it. Unchanged after want of memory.
+    /// Notes that the call of this path failed, and counts it. Unchanged after out of memory.
     fn note_failure(&mut self, path: &Name) -> Result<(), NoMemory>
         ensures noted { OnOk result (self.new ≡ record self.old {
           failed = Some path.now;
@@ -160,10 +160,10 @@ impl MemoryFiles {
 }
 
 impl Files for MemoryFiles {
-    ghost held = { held_of };
+    ghost state = { slot_content_of };
 
     fn stat(&mut self, path: &Name) -> StatAnswer
-        ensures meets { StatGives (held_of self.old) path.now result (held_of self.new) }
+        ensures meets { StatGives (slot_content_of self.old) path.now result (slot_content_of self.new) }
         ensures exactly { StatInMemory self.old path.now result self.new }
     {
         let fails = self.calls.next_fails();
@@ -186,7 +186,7 @@ impl Files for MemoryFiles {
     }
 
     fn read(&mut self, path: &Name) -> ReadAnswer
-        ensures meets { ReadGives (held_of self.old) path.now result (held_of self.new) }
+        ensures meets { ReadGives (slot_content_of self.old) path.now result (slot_content_of self.new) }
         ensures exactly { ReadInMemory self.old path.now result self.new }
     {
         let fails = self.calls.next_fails();

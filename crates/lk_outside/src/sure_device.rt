@@ -1,4 +1,4 @@
-//! The output file held in memory, which fails for want of memory alone.
+//! The output file kept in memory, which fails for out of memory alone.
 
 ghost use Rattle.std.specs.Prelude.{◌≡◌, ◌≤◌, ◌+◌, [], length as list_length};
 ghost use Rattle.lk_outside.specs.Disk.{LengthGives, ReadAtGives, WriteAtGives, CutGives, SyncGives};
@@ -10,7 +10,7 @@ use lk_report::{Answer, Bytes};
 use std::alloc::Global;
 use std::marker::Model;
 
-/// An output file that is held in memory. A write fails only where there is no memory for what it
+/// An output file that is kept in memory. A write fails only where there is no memory for what it
 /// adds; no other call fails.
 #[derive(Drop, Debug)]
 pub struct SureDevice {

@@ -1,8 +1,8 @@
-//! Input files held in memory, which never fail.
+//! Input files kept in memory, which never fail.
 
 ghost use Rattle.std.specs.Prelude.{◌≡◌, [], ◌^◌, ◌-◌, OnOk, OnErr, length, min};
-ghost use Rattle.lk_outside.specs.Held.{StatGives, ReadGives};
-ghost use Rattle.lk_outside.specs.FilesInMemory.{sure_held_of, SureStat, SureRead, SetsRow};
+ghost use Rattle.lk_outside.specs.FilesState.{StatGives, ReadGives};
+ghost use Rattle.lk_outside.specs.FilesInMemory.{sure_state_of, SureStat, SureRead, SetsRow};
 
 use crate::files::{Files, ReadAnswer, StatAnswer};
 use crate::memory_files::MemoryFiles;
@@ -10,7 +10,7 @@ use lk_report::{Bytes, Name, NoMemory, Stamp};
 use std::alloc::Global;
 use std::marker::Model;
 
-/// Files that are held in memory. No call fails; a call may find no memory for its answer.
+/// Files that are kept in memory. No call fails; a call may find no memory for its answer.
 #[derive(Drop, Debug)]
 pub struct SureFiles {
     files: MemoryFiles,
@@ -62,17 +62,17 @@ impl SureFiles {
 }
 
 impl Files for SureFiles {
-    ghost held = { sure_held_of };
+    ghost state = { sure_state_of };
 
     fn stat(&mut self, path: &Name) -> StatAnswer
-        ensures meets { StatGives (sure_held_of self.old) path.now result (sure_held_of self.new) }
+        ensures meets { StatGives (sure_state_of self.old) path.now result (sure_state_of self.new) }
         ensures exactly { SureStat self.old path.now result self.new }
     {
         self.files.stat(path)
     }
 
     fn read(&mut self, path: &Name) -> ReadAnswer
-        ensures meets { ReadGives (sure_held_of self.old) path.now result (sure_held_of self.new) }
+        ensures meets { ReadGives (sure_state_of self.old) path.now result (sure_state_of self.new) }
         ensures exactly { SureRead self.old path.now result self.new }
     {
         self.files.read(path)

@@ -119,7 +119,7 @@ fn ordered(alloc: Global, rows: &[(&[u8], Class)]) -> Result<SectionKeyList, NoM
 }
 
 #[test]
-fn keys_stand_in_the_order_of_the_image(rt: HostRuntime) -> Result<(), NoMemory> {
+fn keys_are_at_in_the_order_of_the_image(rt: HostRuntime) -> Result<(), NoMemory> {
     let keys: [(&[u8], Class); 6] = [
         (b".comment", Class::N),
         (b".bss", Class::Bss),

@@ -1,7 +1,7 @@
 //! Tests of the parts that a link is put together from: words, names, groups, output sections, relocations and
 //! free lists.
 //!
-//! They stand in a crate of their own above the crates that they call, since a crate with tests is proved
+//! They are in a crate of their own above the crates that they call, since a crate with tests is proved
 //! twice. `words` shows commands and their faults (lk_command), `names` which definition wins (lk_symtab),
 //! `claims` which group is kept (lk_comdat), `keys` output sections and their order (lk_outsec), `fields` the
 //! values of relocations (lk_reloc), `rooms` free bytes and what fills them (lk_freelist). What is called here

@@ -133,7 +133,7 @@ fn winner_among(alloc: Global, all: &[Given], is_made: bool) -> Result<Option<Wi
 }
 
 #[test]
-fn a_common_stands_before_a_weak_definition(rt: HostRuntime) {
+fn a_common_is_at_before_a_weak_definition(rt: HostRuntime) {
     let all = [definition(0, 4, true), common(8, 4), common(4, 16)];
     let merged = Winner::Common { size: 8, align: 16 };
     assert_eq!(rt; winner_among(rt.alloc(), &all, false), Ok(Some(merged)));

@@ -195,7 +195,7 @@ fn free_many(rt: &impl Abort, list: &mut FreeList, count: u64) -> Result<(), NoM
     Ok(())
 }
 
-/// Places so many pieces of 16 bytes, which stand one behind another from a place on.
+/// Places so many pieces of 16 bytes, which are one behind another from a place on.
 fn place_many(rt: &impl Abort, list: &mut FreeList, count: u64, from: u64) -> Result<(), NoMemory>
     requires few { count ≤ 10000 }
     requires near { from ≤ 160000 }

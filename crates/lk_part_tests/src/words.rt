@@ -144,7 +144,7 @@ fn is_word(item: &Item, text: &[u8], library: bool, mark: Mark) -> bool {
 }
 
 #[test]
-fn inputs_stand_in_order(rt: HostRuntime) -> Result<(), CommandFault> {
+fn inputs_are_at_in_order(rt: HostRuntime) -> Result<(), CommandFault> {
     let command = parse(rt.alloc(), &EACH)?;
     let items = command.items.as_slice();
     assert_eq!(rt; items.len(), 3);
@@ -238,7 +238,7 @@ struct Row {
     fault: UsageFault,
 }
 
-/// Each fault, and which is told where two stand together.
+/// Each fault, and which is reported where two are together.
 const FAULTS: [Row; 30] = [
     Row {
         words: &[],

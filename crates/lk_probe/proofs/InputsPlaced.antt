@@ -1,4 +1,4 @@
--- What settling, scanning and laying out answer one after another is what is told of where inputs go.
+-- What settling, scanning and laying out answer one after another is what is reported of where inputs go.
 use Rattle.std.proofs.Common.{◌≡◌, ◌≤◌, ◌^◌, refl, sym, ap, ◌∙◌, subst, ℕ, nat_lt, Bool, true, false, List, length, map, Option, Some, None, Ok, Err}
 use Rattle.std.specs.Prelude.{if◌then◌else◌, option_map}
 use Rattle.lk_report.specs.declared.causes.OptionRecord.{OptionRecord}
@@ -17,19 +17,19 @@ use Rattle.lk_model.specs.Resolving.{resolve}
 use Rattle.lk_model.specs.ScanFaults.{scan_faults}
 use Rattle.lk_model.specs.Views.{Input, Resolved}
 use Rattle.lk_layout.specs.Layouts.{LayoutGives, layout_limit}
-use Rattle.lk_link_scan.specs.Scans.{InputsScanned}
-use Rattle.lk_link_scan.specs.declared.link_scanning.ScannedInputs.{ScannedInputs}
-use Rattle.lk_passes.specs.declared.input_files.InputFile.{InputFile}
-use Rattle.lk_passes.specs.Adding.{summary_of}
-use Rattle.lk_passes.specs.Refusals.{IsRefusal}
-use Rattle.lk_passes.specs.Resolves.{found_in, settle_status}
-use Rattle.lk_passes.proofs.AnswersTold.{above, below, faults_told_of, names_counted, some_faults}
-use Rattle.lk_resolve.specs.Settling.{SettleGives, Settled}
+use Rattle.lk_scan_inputs.specs.Scans.{InputsScanned}
+use Rattle.lk_scan_inputs.specs.declared.link_scanning.ScannedInputs.{ScannedInputs}
+use Rattle.lk_inputs.specs.declared.input_files.InputFile.{InputFile}
+use Rattle.lk_inputs.specs.Adding.{summary_of}
+use Rattle.lk_inputs.specs.Refusals.{IsRefusal}
+use Rattle.lk_inputs.specs.Resolves.{found_in, settle_status}
+use Rattle.lk_inputs.proofs.AnswersReported.{above, below, faults_reported_of, names_counted, some_faults}
+use Rattle.lk_resolve.specs.Settling.{SettleGives, ResolutionValue}
 use Rattle.lk_resolve.specs.declared.settle_faults.SettleFault.{SettleFault}
 use Rattle.lk_resolve.specs.declared.settle_faults.SettleFault.TheVariants as settle
 use Rattle.lk_scan.specs.declared.scans.ScanFailure.{ScanFailure}
 use Rattle.lk_scan.specs.declared.scans.ScanFailure.TheVariants as scan
-use Rattle.lk_table_sizes.specs.Given.{IsGiven}
+use Rattle.lk_dyn_sizes.specs.Given.{IsGiven}
 use Rattle.lk_probe.specs.Laying.{InputsLaid, layout_refusal, layout_status, names_refusal, placement_refusal, refusal_or, scan_status}
 use Rattle.lk_probe.specs.declared.placing.Unplaced.{Unplaced}
 use Rattle.lk_probe.specs.declared.placing.Unplaced.TheVariants as unplaced
@@ -39,13 +39,13 @@ use Rattle.lk_probe.specs.declared.placing.Unplaced.TheVariants as unplaced
 few_names : (options : OptionRecord) (xs : List Input) → length (found_in options.entry xs).names ≤ 2 ^ 20 → limit_fault limit.Names (2 ^ 20) (name_count (resolve options xs)) ≡ None
 few_names options xs few = ap (limit_fault limit.Names (2 ^ 20)) (names_counted options xs) ∙ below limit.Names (2 ^ 20) (length (found_in options.entry xs).names) few
 
-names_sound : (options : OptionRecord) (xs : List Input) (settled : Settled) → SettleGives (found_in options.entry xs) (Ok settled) → names_refusal (resolve options xs) ≡ None
-names_sound options xs settled h =
-    λ i. refusal_or (few_names options xs h.0 i) (ap fault_status (faults_told_of options xs ∙ h.1) i)
+names_sound : (options : OptionRecord) (xs : List Input) (resolution : ResolutionValue) → SettleGives (found_in options.entry xs) (Ok resolution) → names_refusal (resolve options xs) ≡ None
+names_sound options xs resolution h =
+    λ i. refusal_or (few_names options xs h.0 i) (ap fault_status (faults_reported_of options xs ∙ h.1) i)
 
 names_refused : (options : OptionRecord) (xs : List Input) (f : SettleFault) → SettleGives (found_in options.entry xs) (Err f) → IsRefusal (names_refusal (resolve options xs)) (settle_status f)
 names_refused options xs (settle.Faults faults) h =
-    λ i. refusal_or (few_names options xs h.0 i) ((ap fault_status (faults_told_of options xs ∙ sym h.1) ∙ some_faults faults h.2) i)
+    λ i. refusal_or (few_names options xs h.0 i) ((ap fault_status (faults_reported_of options xs ∙ sym h.1) ∙ some_faults faults h.2) i)
 names_refused options xs (settle.Limit l) h =
     let n : ℕ = length (found_in options.entry xs).names in
     let many : limit_fault limit.Names (2 ^ 20) (name_count (resolve options xs)) ≡ Some (status.Limit l) =
@@ -53,26 +53,26 @@ names_refused options xs (settle.Limit l) h =
     ap (λ (o : Option Status). refusal_or o (fault_status (resolve_faults (resolve options xs)))) many
 names_refused options xs settle.NoMemory h = tt
 
--- a refusal that comes first is the one that is told
-pub first_told : (s : Status) (first later : Option Status) → IsRefusal first s → IsRefusal (refusal_or first later) s
-first_told (status.Done how) first later h = ap (λ (o : Option Status). refusal_or o later) h
-first_told (status.LinkError f) first later h = ap (λ (o : Option Status). refusal_or o later) h
-first_told (status.Usage u) first later h = ap (λ (o : Option Status). refusal_or o later) h
-first_told (status.ReadFault p) first later h = tt
-first_told status.DeviceFault first later h = ap (λ (o : Option Status). refusal_or o later) h
-first_told status.NoMemory first later h = tt
-first_told (status.Limit l) first later h = ap (λ (o : Option Status). refusal_or o later) h
-first_told (status.NotUpdated c) first later h = ap (λ (o : Option Status). refusal_or o later) h
-first_told (status.NotYet w) first later h = ap (λ (o : Option Status). refusal_or o later) h
+-- a refusal that comes first is the one that is reported
+pub first_reported : (s : Status) (first later : Option Status) → IsRefusal first s → IsRefusal (refusal_or first later) s
+first_reported (status.Done how) first later h = ap (λ (o : Option Status). refusal_or o later) h
+first_reported (status.LinkError f) first later h = ap (λ (o : Option Status). refusal_or o later) h
+first_reported (status.Usage u) first later h = ap (λ (o : Option Status). refusal_or o later) h
+first_reported (status.ReadFault p) first later h = tt
+first_reported status.DeviceFault first later h = ap (λ (o : Option Status). refusal_or o later) h
+first_reported status.NoMemory first later h = tt
+first_reported (status.Limit l) first later h = ap (λ (o : Option Status). refusal_or o later) h
+first_reported (status.NotUpdated c) first later h = ap (λ (o : Option Status). refusal_or o later) h
+first_reported (status.NotYet w) first later h = ap (λ (o : Option Status). refusal_or o later) h
 
 -- and where there is none the next one is
-pub later_told : (s : Status) (first later : Option Status) → first ≡ None → IsRefusal later s → IsRefusal (refusal_or first later) s
-later_told s first later none h = subst (λ (o : Option Status). IsRefusal (refusal_or o later) s) (sym none) h
+pub later_reported : (s : Status) (first later : Option Status) → first ≡ None → IsRefusal later s → IsRefusal (refusal_or first later) s
+later_reported s first later none h = subst (λ (o : Option Status). IsRefusal (refusal_or o later) s) (sym none) h
 
 -- ---- places
 
-limit_told : (place : Placement) → placement_refusal place ≡ option_map (λ (l : LimitFault). status.Limit l) (layout_limit place)
-limit_told place = by (nat_lt 60000 (section_count place)) (nat_lt (2 ^ 31) (memory_of place)) (record { which = limit.Sections; number = section_count place }) (record { which = limit.Memory; number = memory_of place })
+limit_reported : (place : Placement) → placement_refusal place ≡ option_map (λ (l : LimitFault). status.Limit l) (layout_limit place)
+limit_reported place = by (nat_lt 60000 (section_count place)) (nat_lt (2 ^ 31) (memory_of place)) (record { which = limit.Sections; number = section_count place }) (record { which = limit.Memory; number = memory_of place })
   where
     by : (a b : Bool) (x y : LimitFault) → refusal_or (if a then Some (status.Limit x) else None) (if b then Some (status.Limit y) else None)
         ≡ option_map (λ (l : LimitFault). status.Limit l) (if a then Some x else if b then Some y else None)
@@ -81,7 +81,7 @@ limit_told place = by (nat_lt 60000 (section_count place)) (nat_lt (2 ^ 31) (mem
     by false false x y = refl
 
 place_refused : (r : Resolved) (f : LayoutFault) → LayoutGives r (Err f) → IsRefusal (placement_refusal (full_place r)) (layout_status f)
-place_refused r (layout.Limit l) h = limit_told (full_place r) ∙ ap (option_map (λ (l : LimitFault). status.Limit l)) h
+place_refused r (layout.Limit l) h = limit_reported (full_place r) ∙ ap (option_map (λ (l : LimitFault). status.Limit l)) h
 place_refused r layout.NoMemory h = tt
 
 place_sound : (r : Resolved) (place : Placement) → LayoutGives r (Ok place) → placement_refusal (full_place r) ≡ None
@@ -93,40 +93,40 @@ scan_refused r files scan.NoMemory h = tt
 
 -- ---- one after another
 
-pub unsettled_told : (options : OptionRecord) (xs : List Input) (f : SettleFault) (u : Unplaced) → SettleGives (found_in options.entry xs) (Err f) → u ≡ unplaced.Settling f → InputsLaid (resolve options xs) (Err u)
+pub unresolved_reported : (options : OptionRecord) (xs : List Input) (f : SettleFault) (u : Unplaced) → SettleGives (found_in options.entry xs) (Err f) → u ≡ unplaced.Settling f → InputsLaid (resolve options xs) (Err u)
 unfolding layout_refusal
-unsettled_told options xs f u h e =
+unresolved_reported options xs f u h e =
     let r : Resolved = resolve options xs in
     subst (λ (v : Unplaced). InputsLaid r (Err v)) (sym e)
-    (first_told (settle_status f) (names_refusal r) (refusal_or (fault_status (scan_faults r)) (placement_refusal (full_place r))) (names_refused options xs f h))
+    (first_reported (settle_status f) (names_refusal r) (refusal_or (fault_status (scan_faults r)) (placement_refusal (full_place r))) (names_refused options xs f h))
 
-pub unscanned_told : (options : OptionRecord) (xs : List Input) (settled : Settled) (files : List InputFile) (f : ScanFailure) (u : Unplaced)
-    → SettleGives (found_in options.entry xs) (Ok settled) → InputsScanned (resolve options xs) files (Err f) → u ≡ unplaced.Scanning f → InputsLaid (resolve options xs) (Err u)
+pub unscanned_reported : (options : OptionRecord) (xs : List Input) (resolution : ResolutionValue) (files : List InputFile) (f : ScanFailure) (u : Unplaced)
+    → SettleGives (found_in options.entry xs) (Ok resolution) → InputsScanned (resolve options xs) files (Err f) → u ≡ unplaced.Scanning f → InputsLaid (resolve options xs) (Err u)
 unfolding layout_refusal
-unscanned_told options xs settled files f u found h e =
+unscanned_reported options xs resolution files f u found h e =
     let r : Resolved = resolve options xs in
     subst (λ (v : Unplaced). InputsLaid r (Err v)) (sym e)
-    (later_told (scan_status f) (names_refusal r) (refusal_or (fault_status (scan_faults r)) (placement_refusal (full_place r))) (names_sound options xs settled found)
-    (first_told (scan_status f) (fault_status (scan_faults r)) (placement_refusal (full_place r)) (scan_refused r files f h)))
+    (later_reported (scan_status f) (names_refusal r) (refusal_or (fault_status (scan_faults r)) (placement_refusal (full_place r))) (names_sound options xs resolution found)
+    (first_reported (scan_status f) (fault_status (scan_faults r)) (placement_refusal (full_place r)) (scan_refused r files f h)))
 
-pub unlaid_told : (options : OptionRecord) (xs : List Input) (settled : Settled) (files : List InputFile) (s : ScannedInputs) (f : LayoutFault) (u : Unplaced)
-    → SettleGives (found_in options.entry xs) (Ok settled) → InputsScanned (resolve options xs) files (Ok s) → LayoutGives (resolve options xs) (Err f) → u ≡ unplaced.Laying f → InputsLaid (resolve options xs) (Err u)
+pub unlaid_reported : (options : OptionRecord) (xs : List Input) (resolution : ResolutionValue) (files : List InputFile) (s : ScannedInputs) (f : LayoutFault) (u : Unplaced)
+    → SettleGives (found_in options.entry xs) (Ok resolution) → InputsScanned (resolve options xs) files (Ok s) → LayoutGives (resolve options xs) (Err f) → u ≡ unplaced.Laying f → InputsLaid (resolve options xs) (Err u)
 unfolding layout_refusal
-unlaid_told options xs settled files s f u found scanned h e =
+unlaid_reported options xs resolution files s f u found scanned h e =
     let r : Resolved = resolve options xs in
     subst (λ (v : Unplaced). InputsLaid r (Err v)) (sym e)
-    (later_told (layout_status f) (names_refusal r) (refusal_or (fault_status (scan_faults r)) (placement_refusal (full_place r))) (names_sound options xs settled found)
-    (later_told (layout_status f) (fault_status (scan_faults r)) (placement_refusal (full_place r)) (ap fault_status scanned.0) (place_refused r f h)))
+    (later_reported (layout_status f) (names_refusal r) (refusal_or (fault_status (scan_faults r)) (placement_refusal (full_place r))) (names_sound options xs resolution found)
+    (later_reported (layout_status f) (fault_status (scan_faults r)) (placement_refusal (full_place r)) (ap fault_status scanned.0) (place_refused r f h)))
 
-pub laid_told : (options : OptionRecord) (xs : List Input) (settled : Settled) (files : List InputFile) (s : ScannedInputs) (place : Placement)
-    → SettleGives (found_in options.entry xs) (Ok settled) → InputsScanned (resolve options xs) files (Ok s) → LayoutGives (resolve options xs) (Ok place) → InputsLaid (resolve options xs) (Ok place)
+pub laid_reported : (options : OptionRecord) (xs : List Input) (resolution : ResolutionValue) (files : List InputFile) (s : ScannedInputs) (place : Placement)
+    → SettleGives (found_in options.entry xs) (Ok resolution) → InputsScanned (resolve options xs) files (Ok s) → LayoutGives (resolve options xs) (Ok place) → InputsLaid (resolve options xs) (Ok place)
 unfolding layout_refusal
-laid_told options xs settled files s place found scanned h = (
-  (λ i. refusal_or (names_sound options xs settled found i) (refusal_or (ap fault_status scanned.0 i) (place_sound (resolve options xs) place h i))),
+laid_reported options xs resolution files s place found scanned h = (
+  (λ i. refusal_or (names_sound options xs resolution found i) (refusal_or (ap fault_status scanned.0 i) (place_sound (resolve options xs) place h i))),
   h.2,
 )
 
 -- what code holds of a link is what resolution finds of its inputs
-pub inputs_given : (options : OptionRecord) (xs : List Input) (settled : Settled) (files : List InputFile) (summaries : List InputSummary) (s : ScannedInputs)
-    → summaries ≡ map summary_of xs → SettleGives (found_in options.entry xs) (Ok settled) → InputsScanned (resolve options xs) files (Ok s) → IsGiven settled summaries s.needs options xs
-inputs_given options xs settled files summaries s are found scanned = record { summarized = sym are; found = found.2; needed = sym scanned.1 }
+pub inputs_given : (options : OptionRecord) (xs : List Input) (resolution : ResolutionValue) (files : List InputFile) (summaries : List InputSummary) (s : ScannedInputs)
+    → summaries ≡ map summary_of xs → SettleGives (found_in options.entry xs) (Ok resolution) → InputsScanned (resolve options xs) files (Ok s) → IsGiven resolution summaries s.needs options xs
+inputs_given options xs resolution files summaries s are found scanned = record { summarized = sym are; found = found.2; needed = sym scanned.1 }

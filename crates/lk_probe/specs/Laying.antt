@@ -18,9 +18,9 @@ use Rattle.lk_model.specs.Links.{resolved_of}
 use Rattle.lk_model.specs.ResolveFaults.{name_count, resolve_faults}
 use Rattle.lk_model.specs.ScanFaults.{scan_faults}
 use Rattle.lk_model.specs.Views.{Resolved}
-use Rattle.lk_passes.specs.LookUps.{inputs_limit}
-use Rattle.lk_passes.specs.Refusals.{IsRefusal, inputs_refusal}
-use Rattle.lk_passes.specs.Resolves.{settle_status}
+use Rattle.lk_inputs.specs.LookUps.{inputs_limit}
+use Rattle.lk_inputs.specs.Refusals.{IsRefusal, inputs_refusal}
+use Rattle.lk_inputs.specs.Resolves.{settle_status}
 use Rattle.lk_scan.specs.declared.scans.ScanFailure.{ScanFailure}
 use Rattle.lk_scan.specs.declared.scans.ScanFailure.TheVariants as scan
 use Rattle.lk_probe.specs.declared.placing.Unplaced.{Unplaced}
@@ -54,7 +54,7 @@ unplaced_status (unplaced.Settling f) = settle_status f
 unplaced_status (unplaced.Scanning f) = scan_status f
 unplaced_status (unplaced.Laying f) = layout_status f
 
--- where everything goes of what is resolved, or why it has no places, for which want of memory may stand
+-- where everything goes of what is resolved, or why it has no places, for which out of memory may be
 abbrev pub InputsLaid : Resolved → Result Placement Unplaced → Type 0
 InputsLaid r (Ok place) = (layout_refusal r ≡ None) × (place ≡ full_place r)
 InputsLaid r (Err u) = IsRefusal (layout_refusal r) (unplaced_status u)
@@ -64,12 +64,12 @@ unfoldable pub command_refusal : Command → FileMap → Option Status
 command_refusal command there = refusal_or (inputs_limit command) (refusal_or (inputs_refusal command there) (layout_refusal (resolved_of command there)))
 
 -- what is answered of a command: the full placement, or why there is none, for which a failed read and want
--- of memory may stand
+-- of memory may be
 abbrev pub CommandLaid : Command → FileMap → Result Placement Status → Type 0
 CommandLaid command there (Ok place) = (command_refusal command there ≡ None) × (place ≡ full_place (resolved_of command there))
 CommandLaid command there (Err s) = IsRefusal (command_refusal command there) s
 
--- a fault of usage is told, or want of memory
+-- a fault of usage is reported, or out of memory
 abbrev pub IsUsage : UsageFault → Result Placement Status → Type 0
 IsUsage u (Ok place) = ⊥
 IsUsage u (Err status.NoMemory) = Unit {0}

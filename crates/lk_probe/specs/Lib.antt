@@ -1,5 +1,5 @@
 pub mod Judging
-pub mod Telling
+pub mod ResolutionTexts
 pub mod Laying
 pub mod Rows
 pub mod Asking

@@ -43,8 +43,8 @@ abbrev pub placement_text : Placement → List ℕ
 placement_text place = flat_map row_line place.sections ++ decimal (length place.sections) ++ codes " sections, " ++ decimal (length place.pieces) ++ codes " pieces\n"
 
 -- what is said is the text of where the link of the words puts everything; a status in its place is the one
--- that they have, or want of memory
-abbrev pub TellsPlaces : List (List ℕ) → FileMap → Result (List ℕ) Status → Type 0
-TellsPlaces words there (Ok text) = (place : Placement) × WordsLaid words there (Ok place) × (text ≡ placement_text place)
-TellsPlaces words there (Err status.NoMemory) = Unit {0}
-TellsPlaces words there (Err s) = WordsLaid words there (Err s)
+-- that they have, or out of memory
+abbrev pub ReportsPlaces : List (List ℕ) → FileMap → Result (List ℕ) Status → Type 0
+ReportsPlaces words there (Ok text) = (place : Placement) × WordsLaid words there (Ok place) × (text ≡ placement_text place)
+ReportsPlaces words there (Err status.NoMemory) = Unit {0}
+ReportsPlaces words there (Err s) = WordsLaid words there (Err s)

@@ -2,8 +2,8 @@
 
 ghost use Rattle.std.specs.Prelude.{◌≡◌, IfOk, Some};
 ghost use Rattle.lk_report.specs.FileMap.{FileMap};
-ghost use Rattle.lk_passes.specs.Told.{StatusCounts, map_told};
-ghost use Rattle.lk_probe.specs.FileTexts.{IsOneFault, IsText, TellsBytes, TellsFile, object_text};
+ghost use Rattle.lk_inputs.specs.FileAnswers.{StatusCounts, known_map};
+ghost use Rattle.lk_probe.specs.FileTexts.{IsOneFault, IsText, ReportsBytes, ReportsFile, object_text};
 
 use crate::reading::{Verdict, judged};
 use crate::writing::{put, put_number};
@@ -24,8 +24,8 @@ fn object_text(alloc: Global, sections: usize, symbols: usize) -> Result<Bytes, 
     Ok(Bytes::from_vec(text))
 }
 
-/// The same, or want of memory as a status.
-fn object_told(alloc: Global, sections: usize, symbols: usize) -> Result<Bytes, Status>
+/// The same, or out of memory as a status.
+fn object_reported(alloc: Global, sections: usize, symbols: usize) -> Result<Bytes, Status>
     ensures { IsText (object_text sections symbols) result }
 {
     match object_text(alloc, sections, symbols) {
@@ -45,30 +45,30 @@ fn one_fault(alloc: Global, fault: Fault) -> Status
     }
 }
 
-/// What is said of a file of these bytes, or the status that is told in its place.
-fn bytes_told(alloc: Global, path: Name, bytes: &[u8]) -> Result<Bytes, Status>
-    ensures { TellsBytes path bytes.now result }
+/// What is said of a file of these bytes, or the status that is reported in its place.
+fn bytes_reported(alloc: Global, path: Name, bytes: &[u8]) -> Result<Bytes, Status>
+    ensures { ReportsBytes path bytes.now result }
 {
     match judged(alloc, bytes) {
-        Verdict::Object { sections, symbols } => object_told(alloc, sections, symbols),
+        Verdict::Object { sections, symbols } => object_reported(alloc, sections, symbols),
         Verdict::Faulty(fault) => Err(one_fault(alloc, Fault::Input { path, fault })),
         Verdict::TooLong(limit) => Err(Status::Limit(limit)),
         Verdict::NoMemory => Err(Status::NoMemory),
     }
 }
 
-/// What is said of the file of a path, or the status that is told in its place.
+/// What is said of the file of a path, or the status that is reported in its place.
 ///
 /// # Errors
 /// A file that is not there; a read that failed; a file that is longer than an object may be; its first fault;
-/// want of memory.
-#[tactic(auto, using(lk_passes::proofs::CallsTold::read_tells, lk_passes::proofs::CallsTold::read_counts))]
-pub fn file_told<F: Files>(alloc: Global, path: Name, files: &mut F) -> Result<Bytes, Status>
-    ensures told { (there : FileMap) → map_told (F.held files.old) ≡ Some there → TellsFile path there result }
-    ensures faults { StatusCounts (F.held files.old) result (F.held files.new) }
+/// out of memory.
+#[tactic(auto, using(lk_inputs::proofs::CallsReported::read_reports, lk_inputs::proofs::CallsReported::read_counts))]
+pub fn file_reported<F: Files>(alloc: Global, path: Name, files: &mut F) -> Result<Bytes, Status>
+    ensures reported { (there : FileMap) → known_map (F.state files.old) ≡ Some there → ReportsFile path there result }
+    ensures faults { StatusCounts (F.state files.old) result (F.state files.new) }
 {
     match files.read(&path) {
-        ReadAnswer::Got(bytes) => bytes_told(alloc, path, bytes.as_slice()),
+        ReadAnswer::Got(bytes) => bytes_reported(alloc, path, bytes.as_slice()),
         ReadAnswer::Absent => Err(one_fault(alloc, Fault::Missing { path })),
         ReadAnswer::Failed => Err(Status::ReadFault(path)),
         ReadAnswer::NoMemory => Err(Status::NoMemory),

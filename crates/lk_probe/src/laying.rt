@@ -2,17 +2,17 @@
 
 ghost use Rattle.std.specs.Prelude.{◌≡◌, IsSome, Some};
 ghost use Rattle.lk_report.specs.FileMap.{FileMap};
-ghost use Rattle.lk_passes.specs.LookUps.{inputs_limit};
-ghost use Rattle.lk_passes.specs.Resolves.{WordsFirst};
-ghost use Rattle.lk_passes.specs.Told.{StatusCounts, map_told};
+ghost use Rattle.lk_inputs.specs.LookUps.{inputs_limit};
+ghost use Rattle.lk_inputs.specs.Resolves.{WordsFirst};
+ghost use Rattle.lk_inputs.specs.FileAnswers.{StatusCounts, known_map};
 ghost use Rattle.lk_probe.specs.Laying.{CommandLaid, WordsLaid};
 
 use crate::placing::{place_inputs, status_of};
-use lk_link_scan::unrefused_are_objects;
+use lk_scan_inputs::unrefused_are_objects;
 use lk_model::commands::Command;
 use lk_model::layouts::Placement;
 use lk_outside::Files;
-use lk_passes::{command_of, read_command};
+use lk_inputs::{command_of, read_command};
 use lk_report::{NameList, Status};
 use std::alloc::Global;
 
@@ -22,9 +22,9 @@ fn lay_out_command<F: Files>(
     command: &Command,
     files: &mut F,
 ) -> Result<Placement, Status>
-    ensures told { (there : FileMap) → map_told (F.held files.old) ≡ Some there → CommandLaid command.now there result }
-    ensures faults { StatusCounts (F.held files.old) result (F.held files.new) }
-    ensures limit { IsSome (inputs_limit command.now) → F.held files.new ≡ F.held files.old }
+    ensures reported { (there : FileMap) → known_map (F.state files.old) ≡ Some there → CommandLaid command.now there result }
+    ensures faults { StatusCounts (F.state files.old) result (F.state files.new) }
+    ensures limit { IsSome (inputs_limit command.now) → F.state files.new ≡ F.state files.old }
 {
     unrefused_are_objects();
     let inputs = read_command(alloc, command, files)?;
@@ -44,9 +44,9 @@ pub fn lay_out<F: Files>(
     words: &NameList,
     files: &mut F,
 ) -> Result<Placement, Status>
-    ensures told { (there : FileMap) → map_told (F.held files.old) ≡ Some there → WordsLaid words.now there result }
-    ensures faults { StatusCounts (F.held files.old) result (F.held files.new) }
-    ensures words_first { WordsFirst words.now (F.held files.old) (F.held files.new) }
+    ensures reported { (there : FileMap) → known_map (F.state files.old) ≡ Some there → WordsLaid words.now there result }
+    ensures faults { StatusCounts (F.state files.old) result (F.state files.new) }
+    ensures words_first { WordsFirst words.now (F.state files.old) (F.state files.new) }
 {
     let command = command_of(alloc, words)?;
     lay_out_command(alloc, &command, files)

@@ -6,9 +6,9 @@
 //! before it looks at relocations. `lk_probe layout WORDS` says where a link of these words, made anew, puts its
 //! output sections, and how many pieces it keeps, or what the linker would tell before it has an image. It ends
 //! with the linker's exit status for what it says: 0, 1 for faults, 2 for words, 3 for a file that cannot be
-//! read, 5 for want of memory, 6 for a limit, 8 for what is not built yet.
+//! read, 5 for out of memory, 6 for a limit, 8 for what is not built yet.
 //!
-//! `what_is_asked` (arguments.rt) tells what the arguments ask for, `answer_to` (answering.rt) answers it, and
+//! `what_is_asked` (arguments.rt) reports what the arguments ask for, `answer_to` (answering.rt) answers it, and
 //! `say_answer` (saying.rt) says the answer; `main` hands the host's files and standard output to them.
 #![tactic(auto)]
 
@@ -20,7 +20,7 @@ mod placing;
 mod reading;
 mod rows;
 mod saying;
-mod telling;
+mod resolution_texts;
 mod writing;
 
 use answering::answer_to;

@@ -3,18 +3,18 @@
 ghost use Rattle.std.specs.Prelude.{◌≡◌, List, length};
 ghost use Rattle.lk_model.specs.Resolving.{resolve};
 ghost use Rattle.lk_model.specs.Views.{Input};
-ghost use Rattle.lk_link_scan.specs.Objects.{AreObjects};
-ghost use Rattle.lk_passes.specs.Asked.{AreSound};
-ghost use Rattle.lk_passes.specs.Refusals.{AreInputs};
-ghost use Rattle.lk_passes.specs.Resolves.{settle_status};
+ghost use Rattle.lk_scan_inputs.specs.Objects.{AreObjects};
+ghost use Rattle.lk_inputs.specs.Asked.{AreSound};
+ghost use Rattle.lk_inputs.specs.Refusals.{AreInputs};
+ghost use Rattle.lk_inputs.specs.Resolves.{settle_status};
 ghost use Rattle.lk_probe.specs.Laying.{InputsLaid, layout_status, scan_status, unplaced_status};
 ghost use Rattle.lk_probe.specs.declared.placing.Unplaced.TheVariants as unplaced;
 
 use lk_layout::full_layout;
-use lk_link_scan::scan_inputs;
+use lk_scan_inputs::scan_inputs;
 use lk_model::commands::Command;
 use lk_model::layouts::{LayoutFault, Placement};
-use lk_passes::{Inputs, resolve_inputs};
+use lk_inputs::{Inputs, resolve_inputs};
 use lk_report::Status;
 use lk_resolve::SettleFault;
 use lk_scan::ScanFailure;
@@ -97,12 +97,12 @@ pub fn status_of(unplaced: Unplaced) -> Status
     }
 }
 
-/// Where a link of inputs that were read, made anew, puts everything: the files are added and settled, the
+/// Where a link of inputs that were read, made anew, puts everything: the files are added and resolved, the
 /// added ones become objects and are scanned, and what they keep is laid out. No input is shared or has a fault.
 ///
 /// # Errors
 /// More names than 2^20; the faults of the names; those of the references; more output sections or memory than
-/// a link may have; want of memory.
+/// a link may have; out of memory.
 pub fn place_inputs(alloc: Global, command: &Command, inputs: Inputs) -> Result<Placement, Unplaced>
     requires alike { length inputs.files ≡ length inputs.summaries }
     requires sound { AreSound inputs }

@@ -22,7 +22,7 @@ pub enum Verdict {
     Faulty(InputFault),
     /// A file that is longer than an object may be.
     TooLong(LimitFault),
-    /// There was no memory to tell.
+    /// There was no memory to report.
     NoMemory,
 }
 

@@ -2,8 +2,8 @@
 
 ghost use Rattle.std.specs.Prelude.{◌≡◌, ◌++◌, IfOk, OnOk, Some};
 ghost use Rattle.lk_report.specs.FileMap.{FileMap};
-ghost use Rattle.lk_passes.specs.Told.{StatusCounts, map_told};
-ghost use Rattle.lk_probe.specs.Rows.{TellsPlaces, class_text, field_text, fields_text, key_text, placement_text, row_line};
+ghost use Rattle.lk_inputs.specs.FileAnswers.{StatusCounts, known_map};
+ghost use Rattle.lk_probe.specs.Rows.{ReportsPlaces, class_text, field_text, fields_text, key_text, placement_text, row_line};
 ghost use Rattle.std.specs.Prelude.{flat_map};
 
 use crate::laying::lay_out;
@@ -89,17 +89,17 @@ fn text_of(alloc: Global, placement: &Placement) -> Result<Bytes, NoMemory>
     Ok(Bytes::from_vec(text))
 }
 
-/// What is said of where a link of these words puts everything, or the status that is told in its place.
+/// What is said of where a link of these words puts everything, or the status that is reported in its place.
 ///
 /// # Errors
 /// Those of `lay_out`.
-pub fn places_told<F: Files>(
+pub fn places_reported<F: Files>(
     alloc: Global,
     words: &NameList,
     files: &mut F,
 ) -> Result<Bytes, Status>
-    ensures told { (there : FileMap) → map_told (F.held files.old) ≡ Some there → TellsPlaces words.now there result }
-    ensures faults { StatusCounts (F.held files.old) result (F.held files.new) }
+    ensures reported { (there : FileMap) → known_map (F.state files.old) ≡ Some there → ReportsPlaces words.now there result }
+    ensures faults { StatusCounts (F.state files.old) result (F.state files.new) }
 {
     let placement = lay_out(alloc, words, files)?;
     match text_of(alloc, &placement) {

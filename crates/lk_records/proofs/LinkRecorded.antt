@@ -13,11 +13,11 @@ use Rattle.lk_model.specs.RecordsOf.{input_record, name_row, recorded_reference,
 use Rattle.lk_model.specs.References.{recorded, recorded_of}
 use Rattle.lk_model.specs.Resolving.{paths_of, resolve}
 use Rattle.lk_model.specs.Views.{Input, Ref, Through}
-use Rattle.lk_passes.specs.declared.input_names.InputName.{InputName}
-use Rattle.lk_passes.specs.Adding.{summary_of}
-use Rattle.lk_passes.specs.Named.{name_of}
-use Rattle.lk_passes.specs.Resolves.{found_in}
-use Rattle.lk_resolve.specs.Settling.{IsFound, Settled}
+use Rattle.lk_inputs.specs.declared.input_names.InputName.{InputName}
+use Rattle.lk_inputs.specs.Adding.{summary_of}
+use Rattle.lk_inputs.specs.Named.{name_of}
+use Rattle.lk_inputs.specs.Resolves.{found_in}
+use Rattle.lk_resolve.specs.Settling.{IsFound, ResolutionValue}
 use Rattle.lk_symtab.specs.NameRows.{NameRow, all_symbols, row_winner}
 use Rattle.lk_records.specs.AddedMarks.{marks_from}
 use Rattle.lk_records.specs.Gathered.{gathered}
@@ -27,60 +27,60 @@ use Rattle.lk_records.specs.Occurrences.{OccurrencesAreRight, name_path, occurre
 
 -- ---- the inputs
 
-paths_told : (xs : List Input) → map name_path (map name_of xs) ≡ paths_of xs
-paths_told [] = refl
-paths_told (x ∷ xs) = ap (λ (ps : List (List ℕ)). x.path ∷ ps) (paths_told xs)
+paths_reported : (xs : List Input) → map name_path (map name_of xs) ≡ paths_of xs
+paths_reported [] = refl
+paths_reported (x ∷ xs) = ap (λ (ps : List (List ℕ)). x.path ∷ ps) (paths_reported xs)
 
 as_many : (xs : List Input) → length (map name_of xs) ≡ length xs
 as_many [] = refl
 as_many (x ∷ xs) = ap suc (as_many xs)
 
-inputs_told : (added : List ℕ) (first : ℕ) (xs : List Input) → records_with (map name_of xs) (map occurrence_of xs) (marks_from added first (length xs)) (map summary_of xs) ≡ map (input_record added) (enumerate_from first xs)
-inputs_told added first [] = refl
-inputs_told added first (x ∷ xs) = ap (λ (rows : List InputRecord). input_record added (first, x) ∷ rows) (inputs_told added (first + 1) xs)
+inputs_reported : (added : List ℕ) (first : ℕ) (xs : List Input) → records_with (map name_of xs) (map occurrence_of xs) (marks_from added first (length xs)) (map summary_of xs) ≡ map (input_record added) (enumerate_from first xs)
+inputs_reported added first [] = refl
+inputs_reported added first (x ∷ xs) = ap (λ (rows : List InputRecord). input_record added (first, x) ∷ rows) (inputs_reported added (first + 1) xs)
 
 inputs_recorded : (added : List ℕ) (xs : List Input) → OccurrencesAreRight xs
     → records_with (map name_of xs) (occurrences_after [] (map name_path (map name_of xs))) (marks_from added 0 (length (map name_of xs))) (map summary_of xs) ≡ map (input_record added) (enumerate_from 0 xs)
 inputs_recorded added xs right =
-    ap (λ (ps : List (List ℕ)). records_with (map name_of xs) (occurrences_after [] ps) (marks_from added 0 (length (map name_of xs))) (map summary_of xs)) (paths_told xs)
+    ap (λ (ps : List (List ℕ)). records_with (map name_of xs) (occurrences_after [] ps) (marks_from added 0 (length (map name_of xs))) (map summary_of xs)) (paths_reported xs)
     ∙ ap (λ n. records_with (map name_of xs) (occurrences_after [] (paths_of xs)) (marks_from added 0 n) (map summary_of xs)) (as_many xs)
     ∙ ap (λ ns. records_with (map name_of xs) ns (marks_from added 0 (length xs)) (map summary_of xs)) (sym right)
-    ∙ inputs_told added 0 xs
+    ∙ inputs_reported added 0 xs
 
 -- ---- the names
 
-names_told : (rows : List NameRow) → map recorded_name rows ≡ map name_row (zip (all_symbols rows) (map row_winner rows))
-names_told [] = refl
-names_told (row ∷ rows) = ap (λ (l : List RecordedRow). recorded_name row ∷ l) (names_told rows)
+names_reported : (rows : List NameRow) → map recorded_name rows ≡ map name_row (zip (all_symbols rows) (map row_winner rows))
+names_reported [] = refl
+names_reported (row ∷ rows) = ap (λ (l : List RecordedRow). recorded_name row ∷ l) (names_reported rows)
 
 -- ---- the references
 
-reference_told : (ref : Ref) (through : Through) → recorded (record ref { through = through }) ≡ recorded_through ref through
-reference_told ref (Through.ByName name weak) = refl
-reference_told ref (Through.ByLocal symbol) = refl
+reference_reported : (ref : Ref) (through : Through) → recorded (record ref { through = through }) ≡ recorded_through ref through
+reference_reported ref (Through.ByName name weak) = refl
+reference_reported ref (Through.ByLocal symbol) = refl
 
-references_told : (refs : List Ref) → recorded_of refs ≡ filter_map recorded_reference refs
-references_told [] = refl
-references_told (ref ∷ refs) = λ i. cons_option (reference_told ref ref.through i) (references_told refs i)
+references_reported : (refs : List Ref) → recorded_of refs ≡ filter_map recorded_reference refs
+references_reported [] = refl
+references_reported (ref ∷ refs) = λ i. cons_option (reference_reported ref ref.through i) (references_reported refs i)
 
 -- ---- all of it
 
-gathered_told : (options : OptionRecord) (xs : List Input) (settled : Settled) (place : Placement) → OccurrencesAreRight xs → IsFound settled (found_in options.entry xs)
-    → gathered options (map name_of xs) (map summary_of xs) settled (recorded_of (resolve options xs).references) place ≡ records_of (resolve options xs) place
+gathered_reported : (options : OptionRecord) (xs : List Input) (resolution : ResolutionValue) (place : Placement) → OccurrencesAreRight xs → IsFound resolution (found_in options.entry xs)
+    → gathered options (map name_of xs) (map summary_of xs) resolution (recorded_of (resolve options xs).references) place ≡ records_of (resolve options xs) place
 unfolding gathered records_of resolve
-gathered_told options xs settled place right found =
+gathered_reported options xs resolution place right found =
     λ i. record {
       version = 1;
       options = record options { dynamic = found.dynamic i };
-      inputs = (inputs_recorded settled.added xs right ∙ ap (λ added. map (input_record added) (enumerate_from 0 xs)) found.added) i;
-      names = (names_told settled.rows ∙ (λ j. map name_row (zip (found.names j) (found.winners j)))) i;
-      references = references_told (resolve options xs).references i;
+      inputs = (inputs_recorded resolution.added xs right ∙ ap (λ added. map (input_record added) (enumerate_from 0 xs)) found.added) i;
+      names = (names_reported resolution.rows ∙ (λ j. map name_row (zip (found.names j) (found.winners j)))) i;
+      references = references_reported (resolve options xs).references i;
       placement = place;
     }
 
-pub link_recorded : (options : OptionRecord) (xs : List Input) (names : List InputName) (summaries : List InputSummary) (settled : Settled) (references : List Reference) (place : Placement) (r : Result Records NoMemory)
-    → IfOk r (λ (records : Records). records ≡ gathered options names summaries settled references place) → names ≡ map name_of xs → summaries ≡ map summary_of xs → OccurrencesAreRight xs → IsFound settled (found_in options.entry xs)
+pub link_recorded : (options : OptionRecord) (xs : List Input) (names : List InputName) (summaries : List InputSummary) (resolution : ResolutionValue) (references : List Reference) (place : Placement) (r : Result Records NoMemory)
+    → IfOk r (λ (records : Records). records ≡ gathered options names summaries resolution references place) → names ≡ map name_of xs → summaries ≡ map summary_of xs → OccurrencesAreRight xs → IsFound resolution (found_in options.entry xs)
     → references ≡ recorded_of (resolve options xs).references → IfOk r (λ (records : Records). records ≡ records_of (resolve options xs) place)
-link_recorded options xs names summaries settled references place (Ok records) is of_names of_summaries right found of_references =
-    is ∙ (λ i. gathered options (of_names i) (of_summaries i) settled (of_references i) place) ∙ gathered_told options xs settled place right found
-link_recorded options xs names summaries settled references place (Err want) is of_names of_summaries right found of_references = tt
+link_recorded options xs names summaries resolution references place (Ok records) is of_names of_summaries right found of_references =
+    is ∙ (λ i. gathered options (of_names i) (of_summaries i) resolution (of_references i) place) ∙ gathered_reported options xs resolution place right found
+link_recorded options xs names summaries resolution references place (Err want) is of_names of_summaries right found of_references = tt

@@ -8,15 +8,15 @@ use Rattle.std.specs.Map.{lookup}
 use Rattle.std.specs.Option.{unwrap_or}
 use Rattle.std.specs.Str.{bytes_eq}
 use Rattle.indexmap.specs.IndexMap.{insert_entry}
-use Rattle.lk_model.specs.Inputs.{Found, count_of, found_in, input_words, inputs_after, inputs_of}
+use Rattle.lk_model.specs.Inputs.{FoundInput, count_of, found_in, input_words, inputs_after, inputs_of}
 use Rattle.lk_model.specs.Resolving.{paths_of}
-use Rattle.lk_passes.specs.declared.input_names.InputName.{InputName}
+use Rattle.lk_inputs.specs.declared.input_names.InputName.{InputName}
 use Rattle.lk_records.specs.Occurrences.{CommandsAreCounted, PathNoted, count_under, occurrence_of, occurrences_after, occurrences_by, name_path, with_path}
 
 -- ---- one path
 
-told : (p q : List ℕ) → bytes_eq p q ≡ true → p ≡ q
-told p q h = (bytes_eq-Decides p q).0 h
+reported : (p q : List ℕ) → bytes_eq p q ≡ true → p ≡ q
+reported p q h = (bytes_eq-Decides p q).0 h
 
 found_here : (b k : Bool) (n v : ℕ) (rest : Option ℕ) → k ≡ b → unwrap_or (cond b (Some n) rest) 0 ≡ cond k n (unwrap_or (cond b (Some v) rest) 0)
 found_here true k n v rest e = sym (ap (λ c. cond c n v) e)
@@ -39,11 +39,11 @@ inserted (e ∷ es) key n other = by (bytes_eq key.now e.0.now) refl (inserted e
     by : (b : Bool) → bytes_eq key.now e.0.now ≡ b → count_under (insert_entry (λ (x y : Bor (List ℕ)). bytes_eq x.now y.now) es key n) other ≡ cond (bytes_eq other key.now) n (count_under es other)
         → count_under (cond b ((e.0, n) ∷ es) (e ∷ (insert_entry (λ (x y : Bor (List ℕ)). bytes_eq x.now y.now) es key n))) other ≡ cond (bytes_eq other key.now) n (count_under (e ∷ es) other)
     by true h later =
-        found_here (bytes_eq other e.0.now) (bytes_eq other key.now) n e.1 (lookup (λ (k : Bor (List ℕ)). bytes_eq other k.now) es) (ap (λ p. bytes_eq other p) (told key.now e.0.now h))
+        found_here (bytes_eq other e.0.now) (bytes_eq other key.now) n e.1 (lookup (λ (k : Bor (List ℕ)). bytes_eq other k.now) es) (ap (λ p. bytes_eq other p) (reported key.now e.0.now h))
     by false h later =
         found_later (bytes_eq other e.0.now) (bytes_eq other key.now) n e.1 (lookup (λ (k : Bor (List ℕ)). bytes_eq other k.now) es)
         (lookup (λ (k : Bor (List ℕ)). bytes_eq other k.now) (insert_entry (λ (x y : Bor (List ℕ)). bytes_eq x.now y.now) es key n))
-        (λ same. ap (λ p. bytes_eq p key.now) (told other e.0.now same) ∙ nat_list_eq_equiv.symm e.0.now key.now ∙ h) later
+        (λ same. ap (λ p. bytes_eq p key.now) (reported other e.0.now same) ∙ nat_list_eq_equiv.symm e.0.now key.now ∙ h) later
 
 pub noted : (es new : List (Bor (List ℕ) × ℕ)) (key : Bor (List ℕ)) (before now : ℕ) → before ≡ count_under es key.now → now ≡ before + 1
     → new ≡ insert_entry (λ (x y : Bor (List ℕ)). bytes_eq x.now y.now) es key now → PathNoted es key.now before new
@@ -51,7 +51,7 @@ noted es new key before now had next put =
     (had, λ other. ap (λ l. count_under l other) put ∙ inserted es key now other ∙ grown other (bytes_eq other key.now) refl)
   where
     grown : (other : List ℕ) (b : Bool) → bytes_eq other key.now ≡ b → cond b now (count_under es other) ≡ (if b then count_under es other + 1 else count_under es other)
-    grown other true e = next ∙ ap (λ n. n + 1) (had ∙ ap (count_under es) (sym (told other key.now e)))
+    grown other true e = next ∙ ap (λ n. n + 1) (had ∙ ap (count_under es) (sym (reported other key.now e)))
     grown other false e = refl
 
 -- ---- path after path
@@ -69,10 +69,10 @@ one_more es after done new all count i names name path within is named noted pus
     ∙ so_far
 
 -- counts that are those of earlier paths
-counts_told : (counts : List ℕ → ℕ) (earlier paths : List (List ℕ)) → ((path : List ℕ) → counts path ≡ count_of path earlier) → occurrences_by counts paths ≡ occurrences_after earlier paths
-counts_told counts earlier [] h = refl
-counts_told counts earlier (path ∷ paths) h =
-    λ i. h path i ∷ counts_told (with_path counts path) (path ∷ earlier) paths (λ other. more other (bytes_eq other path) (h other)) i
+counts_reported : (counts : List ℕ → ℕ) (earlier paths : List (List ℕ)) → ((path : List ℕ) → counts path ≡ count_of path earlier) → occurrences_by counts paths ≡ occurrences_after earlier paths
+counts_reported counts earlier [] h = refl
+counts_reported counts earlier (path ∷ paths) h =
+    λ i. h path i ∷ counts_reported (with_path counts path) (path ∷ earlier) paths (λ other. more other (bytes_eq other path) (h other)) i
   where
     more : (other : List ℕ) (b : Bool) → counts other ≡ count_of other earlier
         → (if b then counts other + 1 else counts other) ≡ length (cond b (path ∷ filter (bytes_eq other) earlier) (filter (bytes_eq other) earlier))
@@ -86,11 +86,11 @@ all_counted es done i names all so_far =
     sym (append-nil done)
     ∙ ap (λ (fs : List InputName). done ++ occurrences_by (count_under es) (map name_path fs)) (sym (drop_all i names all))
     ∙ so_far
-    ∙ counts_told (λ path. 0) [] (map name_path names) (λ path. refl)
+    ∙ counts_reported (λ path. 0) [] (map name_path names) (λ path. refl)
 
 -- ---- the inputs of a command
 
-counted_after : (earlier : List (List ℕ)) (founds : List Found) → map occurrence_of (inputs_after earlier founds) ≡ occurrences_after earlier (paths_of (inputs_after earlier founds))
+counted_after : (earlier : List (List ℕ)) (founds : List FoundInput) → map occurrence_of (inputs_after earlier founds) ≡ occurrences_after earlier (paths_of (inputs_after earlier founds))
 unfolding inputs_after
 counted_after earlier [] = refl
 counted_after earlier (found ∷ founds) = ap (λ ns. count_of found.path earlier ∷ ns) (counted_after (found.path ∷ earlier) founds)

@@ -8,7 +8,7 @@ use Rattle.lk_model.specs.declared.summaries.Contributions.{Contributions}
 use Rattle.lk_model.specs.declared.summaries.InputSummary.{InputSummary}
 use Rattle.lk_model.specs.declared.summaries.Winner.{Winner}
 use Rattle.lk_model.specs.RecordsOf.{name_row}
-use Rattle.lk_passes.specs.declared.input_names.InputName.{InputName}
+use Rattle.lk_inputs.specs.declared.input_names.InputName.{InputName}
 use Rattle.lk_symtab.specs.NameRows.{NameRow, row_winner, symbols_in}
 use Rattle.lk_records.specs.AddedMarks.{is_added, marks_from}
 use Rattle.lk_records.specs.InputRecords.{record_with, records_with}
@@ -48,9 +48,9 @@ one_more_input names occurrences marks rest n occurrence name mark summary row r
 -- ---- names
 
 -- the row of the name with a number
-pub row_told : (names : List NameRow) (number : ℕ) (symbols : Contributions) (w : Winner) (row : RecordedRow) → option_map symbols_in (slice_get names number) ≡ Some symbols → option_map row_winner (slice_get names number) ≡ Some w → row ≡ name_row (symbols, w)
+pub row_reported : (names : List NameRow) (number : ℕ) (symbols : Contributions) (w : Winner) (row : RecordedRow) → option_map symbols_in (slice_get names number) ≡ Some symbols → option_map row_winner (slice_get names number) ≡ Some w → row ≡ name_row (symbols, w)
     → option_map recorded_name (slice_get names number) ≡ Some row
-row_told names number symbols w row = by (slice_get names number)
+row_reported names number symbols w row = by (slice_get names number)
   where
     by : (o : Option NameRow) → option_map symbols_in o ≡ Some symbols → option_map row_winner o ≡ Some w → row ≡ name_row (symbols, w) → option_map recorded_name o ≡ Some row
     by None e f is = absurd (cc)

@@ -6,20 +6,20 @@ use Rattle.lk_model.specs.declared.records.Records.{Records}
 use Rattle.lk_model.specs.declared.records.Reference.{Reference}
 use Rattle.lk_model.specs.declared.summaries.InputSummary.{InputSummary}
 use Rattle.lk_model.specs.RecordsOf.{records_version}
-use Rattle.lk_passes.specs.declared.input_names.InputName.{InputName}
-use Rattle.lk_resolve.specs.Settling.{Settled}
+use Rattle.lk_inputs.specs.declared.input_names.InputName.{InputName}
+use Rattle.lk_resolve.specs.Settling.{ResolutionValue}
 use Rattle.lk_records.specs.AddedMarks.{marks_from}
 use Rattle.lk_records.specs.InputRecords.{records_with}
 use Rattle.lk_records.specs.NameRecords.{recorded_name}
 use Rattle.lk_records.specs.Occurrences.{name_path, occurrences_after}
 
 -- the records of inputs with these names and summaries, which were resolved to this
-unfoldable pub gathered : OptionRecord → List InputName → List InputSummary → Settled → List Reference → Placement → Records
-gathered options names summaries settled references place = record {
+unfoldable pub gathered : OptionRecord → List InputName → List InputSummary → ResolutionValue → List Reference → Placement → Records
+gathered options names summaries resolution references place = record {
   version = records_version;
-  options = record options { dynamic = settled.dynamic };
-  inputs = records_with names (occurrences_after [] (map name_path names)) (marks_from settled.added 0 (length names)) summaries;
-  names = map recorded_name settled.rows;
+  options = record options { dynamic = resolution.dynamic };
+  inputs = records_with names (occurrences_after [] (map name_path names)) (marks_from resolution.added 0 (length names)) summaries;
+  names = map recorded_name resolution.rows;
   references = references;
   placement = place;
 }

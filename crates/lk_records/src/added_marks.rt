@@ -19,7 +19,7 @@ fn set_mark(marks: &mut [bool], input: u32)
 /// For so many inputs, by their numbers, whether each is among the added ones.
 ///
 /// # Errors
-/// Want of memory alone.
+/// Out of memory alone.
 pub fn added_marks(alloc: Global, count: usize, added: &[u32]) -> Result<Vec<bool>, NoMemory>
     ensures { IfOk result (λ marks. marks.items ≡ marks_from added.now 0 count) }
 {

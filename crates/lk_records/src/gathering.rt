@@ -5,9 +5,9 @@ ghost use Rattle.lk_model.specs.RecordsOf.{records_of};
 ghost use Rattle.lk_model.specs.References.{recorded_of};
 ghost use Rattle.lk_model.specs.Resolving.{resolve};
 ghost use Rattle.lk_model.specs.Views.{Input};
-ghost use Rattle.lk_passes.specs.Adding.{summary_of};
-ghost use Rattle.lk_passes.specs.Named.{name_of};
-ghost use Rattle.lk_passes.specs.Resolves.{found_in};
+ghost use Rattle.lk_inputs.specs.Adding.{summary_of};
+ghost use Rattle.lk_inputs.specs.Named.{name_of};
+ghost use Rattle.lk_inputs.specs.Resolves.{found_in};
 ghost use Rattle.lk_records.specs.Gathered.{gathered};
 ghost use Rattle.lk_records.specs.Occurrences.{OccurrencesAreRight};
 ghost use Rattle.lk_resolve.specs.Settling.{IsFound};
@@ -17,7 +17,7 @@ use crate::name_records::name_rows;
 use lk_model::layouts::Placement;
 use lk_model::records::{Records, ReferenceList};
 use lk_model::summaries::SummaryList;
-use lk_passes::InputName;
+use lk_inputs::InputName;
 use lk_report::{NoMemory, OptionRecord};
 use lk_resolve::Resolution;
 use std::alloc::Global;
@@ -66,11 +66,11 @@ fn gather(
 }
 
 /// What an image records of a link: of the inputs that have these names and summaries, by number, which were
-/// resolved to this, with the references that an image records and where everything stands. What is given by
+/// resolved to this, with the references that an image records and where everything is. What is given by
 /// value is moved into the records; paths, options and names are copied.
 ///
 /// # Errors
-/// Want of memory, which also answers more inputs of one path than have numbers of 32 bits.
+/// Out of memory, which also answers more inputs of one path than have numbers of 32 bits.
 pub fn link_records(
     alloc: Global,
     options: &OptionRecord,

@@ -9,7 +9,7 @@ use crate::added_marks::added_marks;
 use crate::occurrences::occurrences_of;
 use lk_model::records::{InputRecord, InputRecordList};
 use lk_model::summaries::{InputSummary, SummaryList};
-use lk_passes::InputName;
+use lk_inputs::InputName;
 use lk_report::{List, NoMemory};
 use std::alloc::Global;
 
@@ -57,7 +57,7 @@ fn records_of(
 /// The records of inputs, of which those with these numbers are added. The summaries are moved into them.
 ///
 /// # Errors
-/// Want of memory alone.
+/// Out of memory alone.
 pub fn input_records(
     alloc: Global,
     names: &[InputName],

@@ -1,11 +1,11 @@
 //! What a link records of itself, so that a later link can update its image.
 //!
 //! What was read of the inputs comes in (their names and their summaries), with what they were resolved
-//! to, the references that an image records, and where everything stands. Out come the `Records` of lk_model:
+//! to, the references that an image records, and where everything is. Out come the `Records` of lk_model:
 //! `link_records`. Beside it `exec_stack` says whether an added object asks for an executable stack.
 //!
 //! The contracts cite lk_model: `records_of` and `exec_stack_of` of what `resolve` finds of any inputs that
-//! have these names and summaries. An input's record tells how many inputs before it have its path, so these
+//! have these names and summaries. An input's record reports how many inputs before it have its path, so these
 //! inputs have to be counted in that way (`OccurrencesAreRight`). Callers rely on one law,
 //! `inputs_of_commands_are_counted`: the inputs of every command are.
 //!

@@ -59,7 +59,7 @@ fn row_at(alloc: Global, names: &SymTab, number: u32) -> Result<NameRow, NoMemor
 /// The rows of all names, in order of their numbers.
 ///
 /// # Errors
-/// Want of memory alone.
+/// Out of memory alone.
 pub fn name_rows(alloc: Global, names: &SymTab) -> Result<NameRowList, NoMemory>
     ensures { IfOk result (λ rows. rows ≡ map recorded_name names.now) }
 {

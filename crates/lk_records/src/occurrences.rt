@@ -5,7 +5,7 @@ ghost use Rattle.lk_records.specs.Occurrences.{PathNoted, count_under, name_path
 
 use indexmap::IndexMap;
 use lk_model::summaries::NumberList;
-use lk_passes::InputName;
+use lk_inputs::InputName;
 use lk_report::{List, NoMemory};
 use std::alloc::Global;
 
@@ -19,7 +19,7 @@ fn count_in(counts: &IndexMap<&[u8], u32>, path: &[u8]) -> u32
     }
 }
 
-/// The count after this one; one that has no room in 32 bits is answered as want of memory.
+/// The count after this one; one that has no room in 32 bits is answered as out of memory.
 fn next_count(count: u32) -> Result<u32, NoMemory>
     ensures { IfOk result (λ next. next ≡ count + 1) }
 {
@@ -44,7 +44,7 @@ fn note_path<'f>(counts: &mut IndexMap<&'f [u8], u32>, path: &'f [u8]) -> Result
 /// For each input the number of those before it that have its path.
 ///
 /// # Errors
-/// Want of memory alone.
+/// Out of memory alone.
 pub fn occurrences_of<'f>(alloc: Global, names: &'f [InputName]) -> Result<NumberList, NoMemory>
     ensures { IfOk result (λ counts. counts ≡ occurrences_after [] (map name_path names.now)) }
 {

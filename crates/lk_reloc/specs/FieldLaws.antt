@@ -1,5 +1,5 @@
 -- What a field gives back when it is read and extended to 64 bits (psABI x86-64, "Relocation Types": a
--- field that is too narrow for a value is told by the linker).
+-- field that is too narrow for a value is reported by the linker).
 use Rattle.std.specs.Prelude.{◌≡◌, ◌↔◌, ℕ, ◌+◌, ◌-◌, ◌*◌, ◌^◌, ◌<◌, ◌≤◌, true, nat_lt, if◌then◌else◌}
 use Rattle.lk_elf.specs.Fields.{bytes_of, number_of}
 use Rattle.lk_model.specs.Values.{fits_by_sign, fits_by_zeros}

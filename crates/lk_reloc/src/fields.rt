@@ -51,7 +51,7 @@ pub fn apply(bytes: &mut [u8], at: usize, code: u32, value: u64) -> Result<(), O
     requires { at + width_of code ≤ length bytes.old }
     ensures fits { is_ok result ≡ fits code value }
     ensures written { OnOk result (bytes.new ≡ patch bytes.old at (bytes_of (width_of code) value)) }
-    ensures told { IfErr result (λ refused. refused.value ≡ value) }
+    ensures reported { IfErr result (λ refused. refused.value ≡ value) }
     ensures unchanged { OnErr result (bytes.new ≡ bytes.old) }
 {
     let rule = rule_of(code);

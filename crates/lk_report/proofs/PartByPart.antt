@@ -60,6 +60,6 @@ silent a Going = record { ends = (unchanged a.said, refl) }
 silent a Stopped = record { ends = (refl, refl) }
 
 -- a text that was begun is said whole, or up to a prefix with a count that rose
-pub told : (a b : Spoken) (t : List ℕ) (r : Progress) → Goes a b t Going r → Says a b t
-told a b t Going h = inl h.ends
-told a b t Stopped h = inr h.ends
+pub reported : (a b : Spoken) (t : List ℕ) (r : Progress) → Goes a b t Going r → Says a b t
+reported a b t Going h = inl h.ends
+reported a b t Stopped h = inr h.ends

@@ -3,12 +3,12 @@ use Rattle.std.specs.Prelude.{◌≡◌, ◌≤◌, ◌<◌, ◌-◌, ◌^◌, �
 use Rattle.lk_report.specs.declared.sinks.Answer.{Answer}
 use Rattle.lk_report.specs.declared.sinks.Answer.TheVariants.{Done, Failed}
 
--- a sink: the bytes that it holds, where it tells them, and its count of faults
+-- a sink: the bytes that it holds, where it reports them, and its count of faults
 pub record Spoken : Type 0 where
   pub said : Option (List ℕ)
   pub faults : ℕ
 
--- a count rose: it stands higher than before, or at its last value
+-- a count rose: it is higher than before, or at its last value
 abbrev pub Rose : ℕ → ℕ → Type 0
 Rose before now = min before (2 ^ 64 - 2) < now
 

@@ -81,7 +81,7 @@ fn say_alignment<S: Sink>(
     say_bytes(says, progress, b" there")
 }
 
-// Says what has no room, and two sizes with what stands between them.
+// Says what has no room, and two sizes with what is between them.
 fn say_shortage<S: Sink>(
     says: &mut S,
     progress: Progress,

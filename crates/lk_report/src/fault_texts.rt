@@ -189,7 +189,7 @@ fn say_at<S: Sink>(says: &mut S, progress: Progress, title: &[u8], site: &Site) 
     say_site(says, progress, site)
 }
 
-// Says a relocation type that is not supported, and where it stands.
+// Says a relocation type that is not supported, and where it is.
 fn say_unsupported<S: Sink>(says: &mut S, progress: Progress, code: u32, site: &Site) -> Progress
     ensures { Goes (S.spoken says.old) (S.spoken says.new) (fault_text (Fault.Unsupported code site.now)) progress result }
 {

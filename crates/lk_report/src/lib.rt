@@ -1,7 +1,7 @@
 //! What the linker answers, and how it says it.
 //!
 //! The bottom of all layers, beside the ELF records. Here are the small types that every layer
-//! shares (names, bytes, lists, want of memory), the status of a link with every fault, limit and
+//! shares (names, bytes, lists, out of memory), the status of a link with every fault, limit and
 //! cause that it can have, and the sink that takes its text.
 //!
 //! What comes in is a `Status`; what goes out is its text, put into a `Sink`. The definition that

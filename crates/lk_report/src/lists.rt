@@ -50,7 +50,7 @@ impl<X: Drop> List<X> {
         self.items.as_slice()
     }
 
-    /// Puts an item at the end; the list is unchanged after want of memory.
+    /// Puts an item at the end; the list is unchanged after out of memory.
     pub fn push(&mut self, item: X) -> Result<(), NoMemory>
         ensures pushed { OnOk result (self.new ≡ self.old ++ item ∷ []) }
         ensures unchanged { OnErr result (self.new ≡ self.old) }

@@ -31,7 +31,7 @@ pub fn say_bytes<S: Sink>(says: &mut S, progress: Progress, text: &[u8]) -> Prog
     }
 }
 
-/// Says a name or a path as it stands.
+/// Says a name or a path as it is.
 pub fn say_name<S: Sink>(says: &mut S, progress: Progress, name: &Name) -> Progress
     ensures { Goes (S.spoken says.old) (S.spoken says.new) name.now progress result }
 {

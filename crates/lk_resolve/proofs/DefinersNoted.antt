@@ -17,8 +17,8 @@ use Rattle.lk_resolve.specs.declared.definers.Definers.{Definers}
 use Rattle.lk_resolve.specs.Definers.{IsNoted, IsPutAt, defines, defines_among, is_definer, places_under, with_places}
 use Rattle.lk_resolve.specs.Wanted.{is_home_placed}
 
-told : (p q : List ℕ) → bytes_eq p q ≡ true → p ≡ q
-told p q h = (bytes_eq-Decides p q).0 h
+reported : (p q : List ℕ) → bytes_eq p q ≡ true → p ≡ q
+reported p q h = (bytes_eq-Decides p q).0 h
 
 -- the places under a name once some were put under one
 found_here : (b k : Bool) (n v : List ℕ) (rest : Option (List ℕ)) → k ≡ b → unwrap_or (cond b (Some n) rest) [] ≡ cond k n (unwrap_or (cond b (Some v) rest) [])
@@ -41,11 +41,11 @@ inserted (e ∷ es) key n other = by (bytes_eq key.now e.0.now) refl (inserted e
     by : (b : Bool) → bytes_eq key.now e.0.now ≡ b → places_under (with_places es key n) other ≡ cond (bytes_eq other key.now) n (places_under es other)
         → places_under (cond b ((e.0, n) ∷ es) (e ∷ with_places es key n)) other ≡ cond (bytes_eq other key.now) n (places_under (e ∷ es) other)
     by true h later =
-        found_here (bytes_eq other e.0.now) (bytes_eq other key.now) n e.1 (lookup (λ (k : Bor (List ℕ)). bytes_eq other k.now) es) (ap (λ p. bytes_eq other p) (told key.now e.0.now h))
+        found_here (bytes_eq other e.0.now) (bytes_eq other key.now) n e.1 (lookup (λ (k : Bor (List ℕ)). bytes_eq other k.now) es) (ap (λ p. bytes_eq other p) (reported key.now e.0.now h))
     by false h later =
         found_later (bytes_eq other e.0.now) (bytes_eq other key.now) n e.1 (lookup (λ (k : Bor (List ℕ)). bytes_eq other k.now) es)
         (lookup (λ (k : Bor (List ℕ)). bytes_eq other k.now) (with_places es key n))
-        (λ same. ap (λ p. bytes_eq p key.now) (told other e.0.now same) ∙ nat_list_eq_equiv.symm e.0.now key.now ∙ h) later
+        (λ same. ap (λ p. bytes_eq p key.now) (reported other e.0.now same) ∙ nat_list_eq_equiv.symm e.0.now key.now ∙ h) later
 
 or_false : (b : Bool) → (b || false) ≡ b
 or_false true = refl
@@ -61,7 +61,7 @@ grown : (old new : Definers) (key : Bor (List ℕ)) (place : ℕ) → new.places
 grown old new key place put other i =
     ap (λ es. list_any (nat_eq i) (places_under es other)) put
     ∙ ap (list_any (nat_eq i)) (inserted old.places.entries key (places_under old.places.entries key.now ++ place ∷ []) other)
-    ∙ one_more other key.now (places_under old.places.entries key.now) (places_under old.places.entries other) place i (bytes_eq other key.now) refl (λ e. ap (places_under old.places.entries) (told other key.now e))
+    ∙ one_more other key.now (places_under old.places.entries key.now) (places_under old.places.entries other) place i (bytes_eq other key.now) refl (λ e. ap (places_under old.places.entries) (reported other key.now e))
 
 -- the first place of a name
 pub noted_first : (old new : Definers) (key : Bor (List ℕ)) (place : ℕ) → position (λ (k : Bor (List ℕ)). bytes_eq key.now k.now) (keys_of old.places.entries) ≡ None
@@ -104,7 +104,7 @@ one_defines false true true false = refl
 one_defines false true false false = refl
 one_defines false false r e = refl
 
--- what is told of a name goes on by one symbol
+-- what is reported of a name goes on by one symbol
 pub noted_on : (now new : Definers) (gs : List Global) (k : ℕ) (g : Global) (name : List ℕ) (i place : ℕ) (all : Bool) → k < length gs → g ≡ get_or gs k g → is_home_placed g.home ≡ true → IsNoted now new g.name place
     → (is_definer now name i || (defines_among (drop k gs) name && nat_eq i place)) ≡ all → (is_definer new name i || (defines_among (drop (k + 1) gs) name && nat_eq i place)) ≡ all
 noted_on now new gs k g name i place all within is placed noted so_far =
@@ -121,7 +121,7 @@ passed_on now gs k g name i place all within is placed so_far =
     ∙ ap (λ b. is_definer now name i || (b && nat_eq i place)) (sym (next_defines gs k g name within is))
     ∙ so_far
 
--- past the last symbol nothing is left to be told
+-- past the last symbol nothing is left to be reported
 pub all_noted : (now : Definers) (gs : List Global) (k : ℕ) (name : List ℕ) (i place : ℕ) (all : Bool) → length gs ≤ k
     → (is_definer now name i || (defines_among (drop k gs) name && nat_eq i place)) ≡ all → is_definer now name i ≡ all
 all_noted now gs k name i place all past so_far =

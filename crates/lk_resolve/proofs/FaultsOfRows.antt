@@ -14,7 +14,7 @@ use Rattle.lk_model.specs.Winners.{is_in_object}
 use Rattle.lk_resolve.specs.RowFaults.{doubled_in, doubled_on, faults_in, is_some_in_object, mismatched_in, of_row}
 use Rattle.lk_symtab.specs.NameRows.{NameRow, all_symbols, number_of, row_winner, symbols_in}
 
--- what the table tells of a row that is there
+-- what the table reports of a row that is there
 pub doubled_of : (paths : List (List ℕ)) (o : Option NameRow) (cs : Contributions) → option_map symbols_in o ≡ Some cs → doubled_on paths cs.name None cs.list ≡ of_row (doubled_in paths) o
 doubled_of paths None cs e = absurd (cc)
 doubled_of paths (Some row) cs e =
@@ -58,11 +58,11 @@ doubled_after found name first (c ∷ cs) = by (is_strong_definition c) (doubled
     later : List Contribution
     later = filter is_strong_definition cs
 
-    told : Contribution → Fault
-    told d = fault.MultipleDefinition name (path_in found first) (path_in found d.input)
+    reported : Contribution → Fault
+    reported d = fault.MultipleDefinition name (path_in found first) (path_in found d.input)
 
-    by : (b : Bool) → doubled_on found.paths name (Some first) cs ≡ map told later → cond b (told c ∷ []) [] ++ doubled_on found.paths name (Some first) cs ≡ map told (cond b (c ∷ later) later)
-    by true h = ap (λ l. told c ∷ l) h
+    by : (b : Bool) → doubled_on found.paths name (Some first) cs ≡ map reported later → cond b (reported c ∷ []) [] ++ doubled_on found.paths name (Some first) cs ≡ map reported (cond b (c ∷ later) later)
+    by true h = ap (λ l. reported c ∷ l) h
     by false h = h
 
 doubled_is : (found : Found) (name : List ℕ) (cs : List Contribution) → doubled_on found.paths name None cs ≡ doubled found name (filter is_strong_definition cs)

@@ -1,4 +1,4 @@
--- What an input that was claimed and added makes of what is held, and when it is wanted.
+-- What an input that was claimed and added makes of what is kept, and when it is wanted.
 use Rattle.std.proofs.Common.{◌≡◌, ap, ◌∙◌, ℕ, Bool, List, fold}
 use Rattle.lk_comdat.specs.Claims.{signatures_of}
 use Rattle.lk_comdat.specs.ClaimLaws.{with_claim}

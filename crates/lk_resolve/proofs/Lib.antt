@@ -13,4 +13,4 @@ pub mod InputsAdded
 pub mod ResolverSteps
 pub mod RowsMade
 pub mod FaultsOfRows
-pub mod SettledFound
+pub mod ResolutionFound

@@ -1,4 +1,4 @@
--- A list whose items stand in it once has the items of the list that it was made of; and tests of whole
+-- A list whose items are in it once has the items of the list that it was made of; and tests of whole
 -- lists.
 use Rattle.std.proofs.Common.{◌≡◌, refl, sym, ap, ◌∙◌, Bool, true, false, cond, ◌||◌, List, [], ◌∷◌, ◌++◌, fold}
 use Rattle.std.proofs.lemmas.List.Folds.{list_any-append}

@@ -24,13 +24,13 @@ use Rattle.lk_resolve.proofs.TurnsTaken.{ended, others, passed, taken, taken-few
 
 -- since the search for the next member began nothing was added, and the turns have come here
 pub record Turned (start now : State) (from turns : Turns) (before members : List (Option Member)) : Type 0 where
-  pub held : now ≡ start
+  pub state : now ≡ start
   pub members_are : members ≡ before
   pub goes_on : searched start (queue_at before turns.place) ≡ searched start (queue_at before from.place)
   pub due : WantedAreDue start before turns
 
 pub begun : (s : State) (t : Turns) (ms : List (Option Member)) → WantedAreDue s ms t → Turned s s t t ms ms
-begun s t ms due = record { held = refl; members_are = refl; goes_on = refl; due = due }
+begun s t ms due = record { state = refl; members_are = refl; goes_on = refl; due = due }
 
 -- a place that has no turn has no member that is wanted
 quiet_at : (s : State) (ms : List (Option Member)) (t : Turns) → WantedAreDue s ms t → (i : ℕ) → is_due t i ≡ false → wants_at s (get_or ms i None) ≡ false
@@ -59,9 +59,9 @@ still_due t0 t1 k i turn apart due =
 pub passed_on : (start now new : State) (from t0 t1 t2 : Turns) (before ms left : List (Option Member)) (d : Definers) (k : ℕ) → TurnTaken t0 t1 k
     → AskedAt d k (get_or ms k None) false now new t1 t2 ms left → Turned start now from t0 before ms → Turned start new from t2 before left
 passed_on start now new from t0 t1 t2 before ms left d k turn asked h =
-    let unwanted : wants_at start (get_or before k None) ≡ false = (λ i. wants_at (sym h.held i) (get_or (sym h.members_are i) k None)) ∙ asked.0 in
+    let unwanted : wants_at start (get_or before k None) ≡ false = (λ i. wants_at (sym h.state i) (get_or (sym h.members_are i) k None)) ∙ asked.0 in
     record {
-      held = asked.1 ∙ h.held;
+      state = asked.1 ∙ h.state;
       members_are = asked.3 ∙ h.members_are;
       goes_on = ap (λ (t : Turns). searched start (queue_at before t.place)) asked.2 ∙ ap (λ p. searched start (queue_at before p)) turn.place ∙ turned_to start from t0 t1 before k turn h.due h.goes_on;
       due = λ i wanted. ap (λ (t : Turns). is_due t i) asked.2 ∙ by i wanted unwanted (nat_eq i k) refl;
@@ -74,7 +74,7 @@ passed_on start now new from t0 t1 t2 before ms left d k turn asked h =
 
 -- it was wanted and is added
 module _ (start : State) (t0 t1 t2 : Turns) (before : List (Option Member)) (d : Definers) (k : ℕ) (m : Member) (turn : TurnTaken t0 t1 k)
-    (due : WantedAreDue start before t0) (told : AreDefiners d before) (at : get_or before k None ≡ Some m) (given : TurnsGiven (with_input start (member_as m)) d (unwanted_in start m.summary.now.globals) t1 t2) where
+    (due : WantedAreDue start before t0) (reported : AreDefiners d before) (at : get_or before k None ≡ Some m) (given : TurnsGiven (with_input start (member_as m)) d (unwanted_in start m.summary.now.globals) t1 t2) where
   kept : (i : ℕ) → is_due t1 i ≡ true → is_due t2 i ≡ true
   kept i e = given i ∙ ap (λ b. is_asked_for (with_input start (member_as m)) d (unwanted_in start m.summary.now.globals) i || b) e ∙ or_true (is_asked_for (with_input start (member_as m)) d (unwanted_in start m.summary.now.globals) i)
     where
@@ -90,7 +90,7 @@ module _ (start : State) (t0 t1 t2 : Turns) (before : List (Option Member)) (d :
       by true was = kept i (still_due t0 t1 k i turn apart (due i (ap (wants_at start) is ∙ was)))
       by false was =
           given i
-          ∙ ap (λ b. b || is_due t1 i) (becomes_wanted start (member_as m) (member_as x) (λ name. is_definer d name i) was wanted (λ name e. told name i (ap (λ y. defines_in y name) is ∙ e)))
+          ∙ ap (λ b. b || is_due t1 i) (becomes_wanted start (member_as m) (member_as x) (λ name. is_definer d name i) was wanted (λ name e. reported name i (ap (λ y. defines_in y name) is ∙ e)))
 
   due_after : WantedAreDue (with_input start (member_as m)) (slice_set before k None) t2
   due_after i wanted =
@@ -99,10 +99,10 @@ module _ (start : State) (t0 t1 t2 : Turns) (before : List (Option Member)) (d :
         | inr none ↦ absurd (let no : wants_at (with_input start (member_as m)) (get_or (slice_set before k None) i None) ≡ false = ap (wants_at (with_input start (member_as m))) none in cc)
       ]
 
-  told_after : AreDefiners d (slice_set before k None)
-  told_after name i defined =
+  reported_after : AreDefiners d (slice_set before k None)
+  reported_after name i defined =
       elim (others before k i) [
-        | inl same ↦ told name i (ap (λ o. defines_in o name) (sym same.1) ∙ defined)
+        | inl same ↦ reported name i (ap (λ o. defines_in o name) (sym same.1) ∙ defined)
         | inr none ↦ absurd (let no : defines_in (get_or (slice_set before k None) i None) name ≡ false = ap (λ o. defines_in o name) none in cc)
       ]
 
@@ -113,14 +113,14 @@ module _ (start : State) (t0 t1 t2 : Turns) (before : List (Option Member)) (d :
         ∙ sym (taken start before k m at wanted)
         ∙ turned_to start from t0 t1 before k turn due goes_on,
     due_after,
-    told_after,
+    reported_after,
     taken-fewer before k m at,
   )
 
 pub added : (start now new : State) (from t0 t1 t2 : Turns) (before ms left : List (Option Member)) (d : Definers) (k : ℕ) → TurnTaken t0 t1 k → AreDefiners d before
     → AskedAt d k (get_or ms k None) true now new t1 t2 ms left → Turned start now from t0 before ms → NextAdded d true start new from t2 before left
-added start now new from t0 t1 t2 before ms left d k turn told asked h =
-    let from_start : AskedAt d k (get_or before k None) true start new t1 t2 before left = subst (λ (s : State). AskedAt d k (get_or before k None) true s new t1 t2 before left) h.held (subst (λ (l : List (Option Member)). AskedAt d k (get_or l k None) true now new t1 t2 l left) h.members_are asked) in
+added start now new from t0 t1 t2 before ms left d k turn reported asked h =
+    let from_start : AskedAt d k (get_or before k None) true start new t1 t2 before left = subst (λ (s : State). AskedAt d k (get_or before k None) true s new t1 t2 before left) h.state (subst (λ (l : List (Option Member)). AskedAt d k (get_or l k None) true now new t1 t2 l left) h.members_are asked) in
     by (get_or before k None) refl from_start
   where
     by : (o : Option Member) → get_or before k None ≡ o → AskedAt d k o true start new t1 t2 before left → NextAdded d true start new from t2 before left
@@ -128,12 +128,12 @@ added start now new from t0 t1 t2 before ms left d k turn told asked h =
     by (Some m) at a =
         subst (λ (l : List (Option Member)). NextAdded d true start new from t2 before l) (sym a.4)
         (subst (λ (s : State). NextAdded d true start s from t2 before (slice_set before k None)) (sym a.1)
-        (added_so start t0 t1 t2 before d k m turn h.due told at (subst (λ (s : State). TurnsGiven s d (unwanted_in start m.summary.now.globals) t1 t2) a.1 a.2) from a.0 a.3 h.goes_on))
+        (added_so start t0 t1 t2 before d k m turn h.due reported at (subst (λ (s : State). TurnsGiven s d (unwanted_in start m.summary.now.globals) t1 t2) a.1 a.2) from a.0 a.3 h.goes_on))
 
 -- no place has a turn
 pub none_left : (start now : State) (from t0 : Turns) (before ms : List (Option Member)) → ((i : ℕ) → is_due t0 i ≡ false) → Turned start now from t0 before ms → searched start (queue_at before from.place) ≡ now
 none_left start now from t0 before ms quiet h =
-    sym h.goes_on ∙ ended start before t0.place (λ i. quiet_at start before t0 h.due i (quiet i)) ∙ sym h.held
+    sym h.goes_on ∙ ended start before t0.place (λ i. quiet_at start before t0 h.due i (quiet i)) ∙ sym h.state
 
 -- ---- the whole search
 
@@ -158,22 +158,22 @@ all_due s ms t n are all i wanted =
     let low : i < length ms = within s ms i wanted in
     all i (omega arith)
 
-pub all_told : (d : Definers) (ms : List (Option Member)) → DefinersAre d ms → AreDefiners d ms
-all_told d ms are name i e = are name i ∙ e
+pub all_reported : (d : Definers) (ms : List (Option Member)) → DefinersAre d ms → AreDefiners d ms
+all_reported d ms are name i e = are name i ∙ e
 
--- what is ready before the first turn: these are the members, each has a turn, and what they define is told
+-- what is ready before the first turn: these are the members, each has a turn, and what they define is reported
 pub record Ready (s : State) (ws : List Member) (ms : List (Option Member)) (t : Turns) (d : Definers) : Type 0 where
   pub due : WantedAreDue s ms t
-  pub told : AreDefiners d ms
+  pub reported : AreDefiners d ms
   pub all : searched s (queue_at ms t.place) ≡ searched s (members_as ws)
 
 pub ready : (s : State) (ws : List Member) (items seen ms : List (Option Member)) (t : Turns) (d : Definers) → items ≡ map (λ (m : Member). Some m) ws → seen ≡ items → ms ≡ items
     → DefinersAre d seen → ((i : ℕ) → i < length ws → is_due t i ≡ true) → t.place ≡ 0 → Ready s ws ms t d
-ready s ws items seen ms t d are as_seen as_given told due place =
+ready s ws items seen ms t d are as_seen as_given reported due place =
     let size : length ws ≡ length ms = sym (ap length (as_given ∙ are) ∙ length-map ws (λ (m : Member). Some m)) in
     record {
       due = all_due s ms t (length ws) size due;
-      told = all_told d ms (λ name i. told name i ∙ ap (λ l. defines_in (get_or l i None) name) (as_seen ∙ sym as_given));
+      reported = all_reported d ms (λ name i. reported name i ∙ ap (λ l. defines_in (get_or l i None) name) (as_seen ∙ sym as_given));
       all = at_start s ws ms t (as_given ∙ are) place;
     }
 
@@ -181,22 +181,22 @@ ready s ws items seen ms t d are as_seen as_given told due place =
 pub record Searching (d : Definers) (start now : State) (from turns : Turns) (before members : List (Option Member)) : Type 0 where
   pub goes_on : searched now (queue_at members turns.place) ≡ searched start (queue_at before from.place)
   pub due : WantedAreDue now members turns
-  pub told : AreDefiners d members
+  pub reported : AreDefiners d members
 
 pub searches_from : (d : Definers) (s : State) (t : Turns) (ms : List (Option Member)) → WantedAreDue s ms t → AreDefiners d ms → Searching d s s t t ms ms
-searches_from d s t ms due told = record { goes_on = refl; due = due; told = told }
+searches_from d s t ms due reported = record { goes_on = refl; due = due; reported = reported }
 
 pub searches_on : (d : Definers) (start now new : State) (from t0 t1 : Turns) (before ms left : List (Option Member)) (b : Bool) → b ≡ true
     → NextAdded d b now new t0 t1 ms left → Searching d start now from t0 before ms → Searching d start new from t1 before left
-searches_on d start now new from t0 t1 before ms left true e next h = record { goes_on = next.0 ∙ h.goes_on; due = next.1; told = next.2 }
+searches_on d start now new from t0 t1 before ms left true e next h = record { goes_on = next.0 ∙ h.goes_on; due = next.1; reported = next.2 }
 searches_on d start now new from t0 t1 before ms left false e next h = absurd (cc)
 
 -- ---- by what asking answers
 
 pub added_next : (start now new : State) (from t0 t1 t2 : Turns) (before ms left : List (Option Member)) (d : Definers) (k : ℕ) (b : Bool) → b ≡ true → TurnTaken t0 t1 k → AreDefiners d before
     → AskedAt d k (get_or ms k None) b now new t1 t2 ms left → Turned start now from t0 before ms → NextAdded d true start new from t2 before left
-added_next start now new from t0 t1 t2 before ms left d k true e turn told asked h = added start now new from t0 t1 t2 before ms left d k turn told asked h
-added_next start now new from t0 t1 t2 before ms left d k false e turn told asked h = absurd (cc)
+added_next start now new from t0 t1 t2 before ms left d k true e turn reported asked h = added start now new from t0 t1 t2 before ms left d k turn reported asked h
+added_next start now new from t0 t1 t2 before ms left d k false e turn reported asked h = absurd (cc)
 
 pub passed_next : (start now new : State) (from t0 t1 t2 : Turns) (before ms left : List (Option Member)) (d : Definers) (k : ℕ) (b : Bool) → b ≡ false → TurnTaken t0 t1 k
     → AskedAt d k (get_or ms k None) b now new t1 t2 ms left → Turned start now from t0 before ms → Turned start new from t2 before left

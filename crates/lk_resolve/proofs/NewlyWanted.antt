@@ -34,8 +34,8 @@ use Rattle.lk_resolve.proofs.SectionsLeft.{without-any}
 use Rattle.lk_symtab.specs.NameRows.{NameRow, all_symbols, new_row, number_of, row_with, symbols_in as row_symbols, with_symbol}
 use Rattle.lk_symtab.specs.SymbolLaws.{with_own}
 
-told : (p q : List ℕ) → bytes_eq p q ≡ true → p ≡ q
-told p q h = (bytes_eq-Decides p q).0 h
+reported : (p q : List ℕ) → bytes_eq p q ≡ true → p ≡ q
+reported p q h = (bytes_eq-Decides p q).0 h
 
 -- ---- the row of a name stays as it is where no symbol of it is added
 
@@ -62,7 +62,7 @@ row_stays (row ∷ rows) name other c apart = by (bytes_eq other row.contributio
   where
     by : (b : Bool) → bytes_eq other row.contributions.name ≡ b → find (is_row_of name) (with_symbol rows other c) ≡ find (is_row_of name) rows → find (is_row_of name) (cond b (row_with row c ∷ rows) (row ∷ with_symbol rows other c)) ≡ find (is_row_of name) (row ∷ rows)
     by true e later =
-        let no : is_row_of name row ≡ false = ap (λ n. bytes_eq n name) (sym (told other row.contributions.name e)) ∙ apart in
+        let no : is_row_of name row ≡ false = ap (λ n. bytes_eq n name) (sym (reported other row.contributions.name e)) ∙ apart in
         ap (λ b. cond b (Some (row_with row c)) (find (is_row_of name) rows)) no ∙ sym (ap (λ b. cond b (Some row) (find (is_row_of name) rows)) no)
     by false e later = ap (λ o. cond (is_row_of name row) (Some row) o) later
 
@@ -229,16 +229,16 @@ among_unwanted s [] name P was holds e = absurd (cc)
 among_unwanted s (g ∷ gs) name P was holds e = by (bytes_eq g.name name) refl e (wants_in s g.name) refl (among_unwanted s gs name P was holds)
   where
     by : (b : Bool) → bytes_eq g.name name ≡ b → (b || list_any (λ n. bytes_eq n name) (names_in gs)) ≡ true → (w : Bool) → wants_in s g.name ≡ w → (list_any (λ n. bytes_eq n name) (names_in gs) ≡ true → list_any P (unwanted_in s gs) ≡ true) → list_any P (cond (not w) (g.name ∷ unwanted_in s gs) (unwanted_in s gs)) ≡ true
-    by true same any true wanted later = absurd (let no : wants_in s g.name ≡ false = ap (wants_in s) (told g.name name same) ∙ was in cc)
-    by true same any false wanted later = left_or (P g.name) (list_any P (unwanted_in s gs)) (ap P (told g.name name same) ∙ holds)
+    by true same any true wanted later = absurd (let no : wants_in s g.name ≡ false = ap (wants_in s) (reported g.name name same) ∙ was in cc)
+    by true same any false wanted later = left_or (P g.name) (list_any P (unwanted_in s gs)) (ap P (reported g.name name same) ∙ holds)
     by false same any true wanted later = later any
     by false same any false wanted later = right_or (P g.name) (list_any P (unwanted_in s gs)) (later any)
 
 -- so a member that becomes wanted by an input defines one of the names of the input that become wanted
-pub becomes_wanted : (s : State) (x m : Numbered) (is_told : List ℕ → Bool) → wants s m ≡ false → wants (with_input s x) m ≡ true → ((name : List ℕ) → defines_among m.summary.globals name ≡ true → is_told name ≡ true)
-    → list_any (λ name. wants_in (with_input s x) name && is_told name) (unwanted_in s x.summary.globals) ≡ true
-becomes_wanted s x m is_told was is all =
+pub becomes_wanted : (s : State) (x m : Numbered) (is_reported : List ℕ → Bool) → wants s m ≡ false → wants (with_input s x) m ≡ true → ((name : List ℕ) → defines_among m.summary.globals name ≡ true → is_reported name ≡ true)
+    → list_any (λ name. wants_in (with_input s x) name && is_reported name) (unwanted_in s x.summary.globals) ≡ true
+becomes_wanted s x m is_reported was is all =
     let newly : Newly s (with_input s x) m.summary.globals = newly_wanted s x m was is in
-    among_unwanted s x.summary.globals newly.name (λ name. wants_in (with_input s x) name && is_told name) newly.was
+    among_unwanted s x.summary.globals newly.name (λ name. wants_in (with_input s x) name && is_reported name) newly.was
     (λ i. newly.is i && all newly.name newly.defined i)
     (newly_named s x newly.name newly.was newly.is)

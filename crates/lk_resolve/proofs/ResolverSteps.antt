@@ -1,4 +1,4 @@
--- What a step over what is held means for the list of the added inputs.
+-- What a step over what is kept means for the list of the added inputs.
 use Rattle.std.proofs.Common.{◌≡◌, ap, ◌∙◌, ℕ, Bool, true, false, cond, List, [], ◌∷◌, ◌++◌, Option, Some, None}
 use Rattle.lk_model.specs.Adding.{is_wanted_member, with_one}
 use Rattle.lk_model.specs.Numbered.{Numbered}

@@ -35,9 +35,9 @@ alike change other (r ∷ rows) zero row at same =
     ap (λ x. x ∷ rows) (ap change here ∙ same ∙ ap other (sym here))
 alike change other (r ∷ rows) (suc n) row at same = ap (λ l. r ∷ l) (alike change other rows n row at same)
 
--- what the table tells of a row that is there
+-- what the table reports of a row that is there
 pub not_referred : (dynamic : Bool) (sections : List (List ℕ)) (rows : List NameRow) (n : ℕ) → option_map row_referred (slice_get rows n) ≡ Some false → rows ≡ with_row (with_making dynamic sections) rows n
-not_referred dynamic sections rows n tells = by (slice_get rows n) refl tells
+not_referred dynamic sections rows n reports = by (slice_get rows n) refl reports
   where
     by : (o : Option NameRow) → slice_get rows n ≡ o → option_map row_referred o ≡ Some false → rows ≡ with_row (with_making dynamic sections) rows n
     by None at e = absurd (cc)
@@ -47,7 +47,7 @@ not_referred dynamic sections rows n tells = by (slice_get rows n) refl tells
 
 pub not_made : (dynamic : Bool) (sections : List (List ℕ)) (rows : List NameRow) (n : ℕ) (cs : Contributions) → option_map row_referred (slice_get rows n) ≡ Some true → option_map symbols_in (slice_get rows n) ≡ Some cs → is_made_name_in dynamic sections cs.name ≡ false
     → rows ≡ with_row (with_making dynamic sections) rows n
-not_made dynamic sections rows n cs tells symbols made = by (slice_get rows n) refl tells symbols
+not_made dynamic sections rows n cs reports symbols made = by (slice_get rows n) refl reports symbols
   where
     by : (o : Option NameRow) → slice_get rows n ≡ o → option_map row_referred o ≡ Some true → option_map symbols_in o ≡ Some cs → rows ≡ with_row (with_making dynamic sections) rows n
     by None at e s = absurd (cc)
@@ -59,7 +59,7 @@ not_made dynamic sections rows n cs tells symbols made = by (slice_get rows n) r
 
 pub made_at : (dynamic : Bool) (sections : List (List ℕ)) (rows : List NameRow) (n : ℕ) (cs : Contributions) → option_map row_referred (slice_get rows n) ≡ Some true → option_map symbols_in (slice_get rows n) ≡ Some cs → is_made_name_in dynamic sections cs.name ≡ true
     → with_made rows n ≡ with_row (with_making dynamic sections) rows n
-made_at dynamic sections rows n cs tells symbols made = by (slice_get rows n) refl tells symbols
+made_at dynamic sections rows n cs reports symbols made = by (slice_get rows n) refl reports symbols
   where
     by : (o : Option NameRow) → slice_get rows n ≡ o → option_map row_referred o ≡ Some true → option_map symbols_in o ≡ Some cs → with_made rows n ≡ with_row (with_making dynamic sections) rows n
     by None at e s = absurd (cc)

@@ -1,4 +1,4 @@
--- The search over what is held goes on by one member, ends where none is wanted, and is the model's
+-- The search over what is kept goes on by one member, ends where none is wanted, and is the model's
 -- search.
 use Rattle.std.proofs.Common.{◌≡◌, refl, sym, ap, ◌∙◌, ℕ, zero, suc, Bool, true, false, cond, List, [], ◌∷◌, ◌++◌, fold, length, Option, Some, None}
 use Rattle.std.specs.List.{list_any}

@@ -59,6 +59,6 @@ loaded_in left pieces = map (λ (p : PieceInfo). p.key.name) (filter (λ (p : Pi
 abbrev pub is_same_place : SectionPlace → SectionPlace → Bool
 is_same_place a b = (a.input == b.input) && (a.section == b.section)
 
--- where a kept piece stands, which is nowhere for a common block or a copy
+-- where a kept piece is, which is nowhere for a common block or a copy
 abbrev pub place_of : KeptPiece → List SectionPlace
 place_of k = elim k.piece [ piece.Section i s ↦ record { input = i; section = s } ∷ [] | piece.Common name ↦ [] | piece.Copy name ↦ [] ]

@@ -11,7 +11,7 @@ use Rattle.lk_model.specs.Symbols.{is_strong_definition}
 use Rattle.lk_model.specs.Winners.{is_in_object}
 use Rattle.lk_symtab.specs.NameRows.{NameRow, number_of, row_winner}
 
--- the fault of a contribution, where the first strong definition before it stands in this input
+-- the fault of a contribution, where the first strong definition before it is in this input
 abbrev pub doubled_at : List (List ℕ) → List ℕ → Option ℕ → Contribution → List Fault
 doubled_at paths name None c = []
 doubled_at paths name (Some first) c = cond (is_strong_definition c) (fault.MultipleDefinition name (get_or paths first []) (get_or paths c.input []) ∷ []) []
@@ -37,7 +37,7 @@ abbrev pub of_row : (NameRow → List Fault) → Option NameRow → List Fault
 of_row faults None = []
 of_row faults (Some row) = faults row
 
--- whether a winner stands in an object, where there is one
+-- whether a winner is in an object, where there is one
 abbrev pub is_some_in_object : Option NameRow → Bool
 is_some_in_object None = false
 is_some_in_object (Some row) = is_in_object (row_winner row)

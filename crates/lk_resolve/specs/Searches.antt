@@ -1,4 +1,4 @@
--- This project's own: the search round the members of a lib group, as a search over what is held.
+-- This project's own: the search round the members of a lib group, as a search over what is kept.
 use Rattle.std.specs.Prelude.{ℕ, ◌+◌, List, [], ◌∷◌, map, fold}
 use Rattle.lk_model.specs.declared.summaries.InputSummary.{InputSummary}
 use Rattle.lk_model.specs.Numbered.{Numbered}
@@ -19,6 +19,6 @@ member_as m = record { number = m.number; summary = m.summary.now }
 abbrev pub members_as : List Member → List Numbered
 members_as ms = map member_as ms
 
--- what is held once the search round a queue has ended
+-- what is kept once the search round a queue has ended
 unfoldable pub searched : State → List Numbered → State
 searched s waiting = fold with_input s (listed_of wants with_input s waiting)

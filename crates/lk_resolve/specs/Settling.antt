@@ -1,4 +1,4 @@
--- This project's own: what is settled once all inputs are added, and what it has to do with what the added
+-- This project's own: what is resolved once all inputs are added, and what it has to do with what the added
 -- inputs decide.
 use Rattle.std.specs.Prelude.{◌≡◌, ℕ, ◌<◌, ◌≤◌, ◌^◌, Bool, List, [], length, map, Result, Ok, Err}
 use Rattle.std.specs.List.{list_any}
@@ -15,9 +15,9 @@ use Rattle.lk_resolve.specs.RowFaults.{faults_in}
 use Rattle.lk_resolve.specs.States.{State}
 use Rattle.lk_symtab.specs.NameRows.{NameRow, all_symbols, row_visibility, row_winner}
 
--- what stands once a link is settled: the inputs' paths, the names with their symbols, made or not, the
+-- what is once a link is resolved: the inputs' paths, the names with their symbols, made or not, the
 -- numbers of the added inputs, whether one of them is shared, and the kept sections
-pub record Settled : Type 0 where
+pub record ResolutionValue : Type 0 where
   pub paths : List (List ℕ)
   pub rows : List NameRow
   pub added : List ℕ
@@ -29,15 +29,15 @@ abbrev pub is_place_kept : List SectionPlace → ℕ → ℕ → Bool
 is_place_kept kept input section = let place : SectionPlace = record { input = input; section = section } in list_any (is_same_place place) kept
 
 -- the names that the linker makes are those that it has to make
-abbrev pub settled_rows : State → List NameRow
-settled_rows s = rows_made s.dynamic s.loaded s.rows
+abbrev pub rows_with_made : State → List NameRow
+rows_with_made s = rows_made s.dynamic s.loaded s.rows
 
 -- what stays of a state in a link, and of one whose names are made
-abbrev pub resolved : State → Settled
+abbrev pub resolved : State → ResolutionValue
 resolved s = record { paths = s.paths; rows = s.rows; added = s.added; dynamic = s.dynamic; kept = s.kept }
 
-abbrev pub settled_of : State → Settled
-settled_of s = resolved (record s { rows = settled_rows s })
+abbrev pub resolution_of : State → ResolutionValue
+resolution_of s = resolved (record s { rows = rows_with_made s })
 
 -- a link may have so many names; the whole number where it has more
 abbrev pub most_names : ℕ
@@ -46,26 +46,26 @@ most_names = 2 ^ 20
 abbrev pub names_limit : ℕ → LimitFault
 names_limit count = record { which = limit.Names; number = count }
 
--- what settling a state answers; want of memory is free
-abbrev pub SettlesTo : State → Result Settled SettleFault → Type 0
-SettlesTo s (Ok settled) = (length s.rows ≤ most_names) × (faults_in s.paths s.entry (settled_rows s) ≡ []) × (settled ≡ settled_of s)
-SettlesTo s (Err (fault.Faults faults)) = (length s.rows ≤ most_names) × (faults ≡ faults_in s.paths s.entry (settled_rows s)) × (0 < length faults)
+-- what settling a state answers; out of memory is free
+abbrev pub SettlesTo : State → Result ResolutionValue SettleFault → Type 0
+SettlesTo s (Ok resolution) = (length s.rows ≤ most_names) × (faults_in s.paths s.entry (rows_with_made s) ≡ []) × (resolution ≡ resolution_of s)
+SettlesTo s (Err (fault.Faults faults)) = (length s.rows ≤ most_names) × (faults ≡ faults_in s.paths s.entry (rows_with_made s)) × (0 < length faults)
 SettlesTo s (Err (fault.Limit l)) = (most_names < length s.rows) × (l ≡ names_limit (length s.rows))
 SettlesTo s (Err fault.NoMemory) = Unit {0}
 
--- what is settled is what the added inputs decide
-pub record IsFound (settled : Settled) (found : Found) : Type 0 where
-  pub paths : settled.paths ≡ found.paths
-  pub added : settled.added ≡ found.added
-  pub dynamic : settled.dynamic ≡ found.dynamic
-  pub names : all_symbols settled.rows ≡ found.names
-  pub winners : map row_winner settled.rows ≡ found.winners
-  pub visibilities : map row_visibility settled.rows ≡ found.visibilities
-  pub kept : (input section : ℕ) → is_place_kept settled.kept input section ≡ is_kept_in found input section
+-- what is resolved is what the added inputs decide
+pub record IsFound (resolution : ResolutionValue) (found : Found) : Type 0 where
+  pub paths : resolution.paths ≡ found.paths
+  pub added : resolution.added ≡ found.added
+  pub dynamic : resolution.dynamic ≡ found.dynamic
+  pub names : all_symbols resolution.rows ≡ found.names
+  pub winners : map row_winner resolution.rows ≡ found.winners
+  pub visibilities : map row_visibility resolution.rows ≡ found.visibilities
+  pub kept : (input section : ℕ) → is_place_kept resolution.kept input section ≡ is_kept_in found input section
 
 -- what settling answers where this is what the added inputs decide
-abbrev pub SettleGives : Found → Result Settled SettleFault → Type 0
-SettleGives found (Ok settled) = (length found.names ≤ most_names) × (faults_of found ≡ []) × IsFound settled found
+abbrev pub SettleGives : Found → Result ResolutionValue SettleFault → Type 0
+SettleGives found (Ok resolution) = (length found.names ≤ most_names) × (faults_of found ≡ []) × IsFound resolution found
 SettleGives found (Err (fault.Faults faults)) = (length found.names ≤ most_names) × (faults ≡ faults_of found) × (0 < length faults)
 SettleGives found (Err (fault.Limit l)) = (most_names < length found.names) × (l ≡ names_limit (length found.names))
 SettleGives found (Err fault.NoMemory) = Unit {0}

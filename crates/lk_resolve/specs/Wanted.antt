@@ -1,5 +1,5 @@
 -- This project's own: which names are wanted, and which members of a lib group, as the table of the names
--- tells.
+-- reports.
 use Rattle.std.specs.Prelude.{ℕ, Bool, true, false, ◌&&◌, ◌||◌, List, Option, Some, None, slice_get, option_and_then}
 use Rattle.std.specs.List.{list_any}
 use Rattle.std.specs.Str.{bytes_eq}

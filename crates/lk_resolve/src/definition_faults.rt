@@ -28,7 +28,7 @@ fn copy_path(alloc: Global, paths: &[Name], input: u32) -> Result<Name, NoMemory
     }
 }
 
-/// Notes the fault of a strong definition of a name after the first one, which stands in the input `first`.
+/// Notes the fault of a strong definition of a name after the first one, which is in the input `first`.
 fn note_second(
     alloc: Global,
     paths: &[Name],
@@ -49,8 +49,8 @@ fn note_second(
     })
 }
 
-/// Looks at one more contribution of a name, of which the first strong definition stands in the input `first`:
-/// notes its fault, and tells where the first one stands then.
+/// Looks at one more contribution of a name, of which the first strong definition is in the input `first`:
+/// notes its fault, and reports where the first one is then.
 fn note_contribution(
     alloc: Global,
     paths: &[Name],
@@ -168,7 +168,7 @@ fn is_tls_at(list: &[Contribution], input: u32, symbol: u32) -> bool
     false
 }
 
-/// Whether the winner of a name is thread-local, as its symbol tells.
+/// Whether the winner of a name is thread-local, as its symbol reports.
 fn is_tls_winner(found: &Contributions, winner: Winner) -> bool
     ensures { result ≡ is_tls_winner found.now winner }
 {
@@ -236,7 +236,7 @@ fn note_all_mismatches(
     Ok(())
 }
 
-/// Whether a winner stands in an object.
+/// Whether a winner is in an object.
 fn is_in_object(winner: Winner) -> bool
     ensures { result ≡ is_in_object winner }
 {

@@ -27,7 +27,7 @@ fn home_in(left: &Sections, home: Home) -> Home
 }
 
 /// Adds the symbols of an input, each under its name. A name whose number has no room in 32 bits is answered
-/// as want of memory.
+/// as out of memory.
 pub fn add_symbols(
     names: &mut SymTab,
     input: u32,

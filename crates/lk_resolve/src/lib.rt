@@ -4,7 +4,7 @@
 //! `Resolver::add_input`, each lib group by `add_group`, of which those members are added that define a wanted
 //! name. Out comes, by `settle`, a `Resolution`, or the faults of the names. Contracts see a resolver as the
 //! state of the added inputs (`state_of` of specs/States.antt), and lk_model says which those are (`listed_of`
-//! over `is_wanted_member`). Callers rely on one law: whatever inputs were added, what is settled is
+//! over `is_wanted_member`). Callers rely on one law: whatever inputs were added, what is resolved is
 //! `found_of` of exactly these (`SettleGives` of specs/Settling.antt).
 //!
 //! Each name and signature is looked up by hash, and each contribution is looked at a fixed number of times;
@@ -14,7 +14,7 @@
 
 mod definers;
 mod definition_faults;
-mod held;
+mod state;
 mod input_symbols;
 mod kept_sections;
 mod made_names;

@@ -10,7 +10,7 @@ ghost use Rattle.lk_resolve.specs.Turns.{is_due};
 ghost use Rattle.lk_resolve.specs.Wanted.{wants};
 
 use crate::definers::{Definers, definers_of};
-use crate::held::Held;
+use crate::state::ResolverState;
 use crate::members::Member;
 use crate::turns::Turns;
 use lk_model::summaries::Global as Symbol;
@@ -20,14 +20,14 @@ use std::alloc::Global;
 /// The names of symbols that are not wanted.
 fn unwanted_names<'s>(
     alloc: Global,
-    held: &Held,
+    state: &ResolverState,
     symbols: &'s [Symbol],
 ) -> Result<List<&'s Name>, NoMemory>
-    ensures { IfOk result (λ names. names_as names ≡ unwanted_in held.now symbols.now) }
+    ensures { IfOk result (λ names. names_as names ≡ unwanted_in state.now symbols.now) }
 {
     let mut names = List::new(alloc);
     for symbol in symbols {
-        if !held.is_wanted(&symbol.name) {
+        if !state.is_wanted(&symbol.name) {
             names.push(&symbol.name)?;
         }
     }
@@ -47,16 +47,16 @@ fn give_places(turns: &mut Turns, places: &[usize]) -> Result<(), NoMemory>
 
 /// Gives the members their turns that define one of these names which is wanted.
 fn give_turns(
-    held: &Held,
+    state: &ResolverState,
     definers: &Definers,
     turns: &mut Turns,
     names: &[&Name],
 ) -> Result<(), NoMemory>
-    ensures given { OnOk result (TurnsGiven held.now definers.now (names_as names.now) turns.old turns.new) }
+    ensures given { OnOk result (TurnsGiven state.now definers.now (names_as names.now) turns.old turns.new) }
     ensures place { turns.new.place ≡ turns.old.place }
 {
     for name in names {
-        if held.is_wanted(name) {
+        if state.is_wanted(name) {
             give_places(turns, definers.of(name.as_slice()))?;
         }
     }
@@ -64,22 +64,22 @@ fn give_turns(
 }
 
 /// Whether a member may be wanted: where no symbol of it with a place has a wanted name it is not.
-fn may_be_wanted(held: &Held, member: &Member) -> bool
-    ensures { OnFalse result (wants held.now (member_as member.now) ≡ false) }
+fn may_be_wanted(state: &ResolverState, member: &Member) -> bool
+    ensures { OnFalse result (wants state.now (member_as member.now) ≡ false) }
 {
-    held.places_wanted(member.summary.globals.as_slice())
+    state.places_wanted(member.summary.globals.as_slice())
 }
 
 /// Asks the member at a place, where one waits there: whether it was added.
 fn ask(
     alloc: Global,
-    held: &mut Held,
+    state: &mut ResolverState,
     definers: &Definers,
     turns: &mut Turns,
     members: &mut [Option<Member>],
     place: usize,
 ) -> Result<bool, NoMemory>
-    ensures { IfOk result (λ added. AskedAt definers.now place (get_or members.old place None) added held.old held.new turns.old turns.new members.old members.new) }
+    ensures { IfOk result (λ added. AskedAt definers.now place (get_or members.old place None) added state.old state.new turns.old turns.new members.old members.new) }
 {
     if place >= members.len() {
         return Ok(false);
@@ -87,14 +87,14 @@ fn ask(
     let Some(member) = members[place] else {
         return Ok(false);
     };
-    if !may_be_wanted(held, &member) {
+    if !may_be_wanted(state, &member) {
         return Ok(false);
     }
-    let unwanted = unwanted_names(alloc, held, member.summary.globals.as_slice())?;
-    if !held.add_wanted(member.number, member.summary)? {
+    let unwanted = unwanted_names(alloc, state, member.summary.globals.as_slice())?;
+    if !state.add_wanted(member.number, member.summary)? {
         return Ok(false);
     }
-    give_turns(held, definers, turns, unwanted.as_slice())?;
+    give_turns(state, definers, turns, unwanted.as_slice())?;
     members[place] = None;
     Ok(true)
 }
@@ -102,17 +102,17 @@ fn ask(
 /// Asks member after member, each when its turn comes, until one is added: whether one was.
 fn add_next(
     alloc: Global,
-    held: &mut Held,
+    state: &mut ResolverState,
     definers: &Definers,
     turns: &mut Turns,
     members: &mut [Option<Member>],
 ) -> Result<bool, NoMemory>
-    requires due { WantedAreDue held.old members.old turns.old }
-    requires told { AreDefiners definers.now members.old }
-    ensures { IfOk result (λ added. NextAdded definers.now added held.old held.new turns.old turns.new members.old members.new) }
+    requires due { WantedAreDue state.old members.old turns.old }
+    requires reported { AreDefiners definers.now members.old }
+    ensures { IfOk result (λ added. NextAdded definers.now added state.old state.new turns.old turns.new members.old members.new) }
 {
     'turns: while let Some(place) = turns.take() {
-        if ask(alloc, held, definers, turns, members, place)? {
+        if ask(alloc, state, definers, turns, members, place)? {
             return Ok(true);
         }
     }
@@ -122,16 +122,16 @@ fn add_next(
 /// Adds those of the members that are wanted, each when its turn comes.
 fn add_all(
     alloc: Global,
-    held: &mut Held,
+    state: &mut ResolverState,
     definers: &Definers,
     turns: &mut Turns,
     members: &mut [Option<Member>],
 ) -> Result<(), NoMemory>
-    requires due { WantedAreDue held.old members.old turns.old }
-    requires told { AreDefiners definers.now members.old }
-    ensures { OnOk result (held.new ≡ searched held.old (queue_at members.old turns.old.place)) }
+    requires due { WantedAreDue state.old members.old turns.old }
+    requires reported { AreDefiners definers.now members.old }
+    ensures { OnOk result (state.new ≡ searched state.old (queue_at members.old turns.old.place)) }
 {
-    'members: while add_next(alloc, held, definers, turns, members)? {}
+    'members: while add_next(alloc, state, definers, turns, members)? {}
     Ok(())
 }
 
@@ -163,14 +163,14 @@ fn all_turns(alloc: Global, places: usize) -> Result<Turns, NoMemory>
 /// Adds those of the members that are wanted, each when its turn comes.
 pub fn search_by_names<'m>(
     alloc: Global,
-    held: &mut Held,
+    state: &mut ResolverState,
     waiting: &[Member<'m>],
 ) -> Result<(), NoMemory>
-    ensures { OnOk result (held.new ≡ searched held.old (members_as waiting.now)) }
+    ensures { OnOk result (state.new ≡ searched state.old (members_as waiting.now)) }
 {
     let mut members = placed(alloc, waiting)?;
     let definers = definers_of(alloc, members.as_slice())?;
     let mut turns = all_turns(alloc, waiting.len())?;
-    add_all(alloc, held, &definers, &mut turns, members.as_mut_slice())?;
+    add_all(alloc, state, &definers, &mut turns, members.as_mut_slice())?;
     Ok(())
 }

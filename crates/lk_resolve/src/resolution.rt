@@ -13,7 +13,7 @@ use lk_symtab::SymTab;
 use std::marker::Model;
 
 /// The names of a link with their definitions, the added inputs and the kept sections. Contracts see it as what
-/// is settled.
+/// is resolved.
 #[derive(Drop)]
 pub struct Resolution {
     pub(crate) paths: NameList,
@@ -25,9 +25,9 @@ pub struct Resolution {
 
 impl Model for Resolution {
     ghost use Rattle.std.specs.Prelude.{◌<◌, ◌^◌, length};
-    ghost use Rattle.lk_resolve.specs.Settling.{Settled};
+    ghost use Rattle.lk_resolve.specs.Settling.{ResolutionValue};
 
-    ghost Value = { Settled };
+    ghost Value = { ResolutionValue };
 
     ghost view = { λ r. record { paths = r.paths; rows = r.names; added = r.added; dynamic = r.dynamic; kept = r.kept.keys } };
 

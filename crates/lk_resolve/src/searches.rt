@@ -5,7 +5,7 @@
 ghost use Rattle.std.specs.Prelude.{◌≡◌, ◌≤◌, length, IfOk, OnOk};
 ghost use Rattle.lk_resolve.specs.Searches.{members_as, numbered_on, searched};
 
-use crate::held::Held;
+use crate::state::ResolverState;
 use crate::members::Member;
 use crate::name_searches::search_by_names;
 use lk_model::summaries::InputSummary;
@@ -38,16 +38,16 @@ fn number_members<'m>(
 /// Goes through the members that wait, and adds each that is wanted; those that still wait.
 fn pass<'m>(
     alloc: Global,
-    held: &mut Held,
+    state: &mut ResolverState,
     waiting: &[Member<'m>],
 ) -> Result<List<Member<'m>>, NoMemory>
-    ensures goes_on { IfOk result (λ left. searched held.new (members_as left) ≡ searched held.old (members_as waiting.now)) }
+    ensures goes_on { IfOk result (λ left. searched state.new (members_as left) ≡ searched state.old (members_as waiting.now)) }
     ensures fewer { IfOk result (λ left. length left ≤ length waiting.now) }
-    ensures ends { IfOk result (λ left. length left ≡ length waiting.now → searched held.old (members_as waiting.now) ≡ held.new) }
+    ensures ends { IfOk result (λ left. length left ≡ length waiting.now → searched state.old (members_as waiting.now) ≡ state.new) }
 {
     let mut left = List::new(alloc);
     for member in waiting {
-        if held.add_wanted(member.number, member.summary)? {
+        if state.add_wanted(member.number, member.summary)? {
             continue;
         }
         left.push(*member)?;
@@ -58,20 +58,20 @@ fn pass<'m>(
 /// Adds the members of a group that define a wanted name, each when its turn comes.
 pub fn add_members(
     alloc: Global,
-    held: &mut Held,
+    state: &mut ResolverState,
     first: u32,
     summaries: &[InputSummary],
 ) -> Result<(), NoMemory>
-    ensures { OnOk result (held.new ≡ searched held.old (numbered_on first summaries.now)) }
+    ensures { OnOk result (state.new ≡ searched state.old (numbered_on first summaries.now)) }
 {
     let mut waiting = number_members(alloc, first, summaries)?;
     'passes: for _ in 0..PLAIN_PASSES {
-        let left = pass(alloc, held, waiting.as_slice())?;
+        let left = pass(alloc, state, waiting.as_slice())?;
         if left.as_slice().len() == waiting.as_slice().len() {
             return Ok(());
         }
         waiting = left;
     }
-    search_by_names(alloc, held, waiting.as_slice())?;
+    search_by_names(alloc, state, waiting.as_slice())?;
     Ok(())
 }

@@ -1,4 +1,4 @@
-//! Where a section of a link stands: its input and its number there.
+//! Where a section of a link is: its input and its number there.
 
 /// A section of an input.
 #[derive(Clone, Copy, PartialEq, Eq, Hash, Debug)]

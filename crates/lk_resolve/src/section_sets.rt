@@ -1,5 +1,5 @@
 //! Which sections of an input are left in the link: its groups are claimed, and the sections of its pieces
-//! that no group drops stand in a set.
+//! that no group drops are in a set.
 
 ghost use Rattle.std.specs.Prelude.{◌≡◌, nat_eq, cond, [], fold, map, is_some, IfOk, OnOk};
 ghost use Rattle.lk_comdat.specs.Claims.{holder_of, signatures_of};

@@ -9,6 +9,6 @@ pub enum SettleFault {
     Faults(FaultList),
     /// More names than a link may have, with their whole number.
     Limit(LimitFault),
-    /// Want of memory, now or before.
+    /// Out of memory, now or before.
     NoMemory,
 }

@@ -1,9 +1,9 @@
-//! What is held is settled: the names are counted and made, and their faults are gathered.
+//! What is kept is resolved: the names are counted and made, and their faults are gathered.
 
 ghost use Rattle.std.specs.Prelude.{◌≡◌, nat_lt, length};
 ghost use Rattle.lk_resolve.specs.Settling.{SettlesTo};
 
-use crate::held::Held;
+use crate::state::ResolverState;
 use crate::resolution::Resolution;
 use crate::settle_faults::SettleFault;
 use lk_report::{FaultList, LimitFault, LimitKind};
@@ -18,31 +18,31 @@ fn has_faults(faults: &FaultList) -> bool
     faults.as_slice().len() > 0
 }
 
-/// Settles what is held.
+/// Settles what is kept.
 ///
 /// # Errors
-/// Too many names; then the faults of the names; want of memory.
-#[tactic(auto, using(crate::proofs::SettledFound::settles_faults, crate::proofs::SettledFound::settles_ok))]
-pub fn settle_held(mut held: Held) -> Result<Resolution, SettleFault>
-    ensures { SettlesTo held result }
+/// Too many names; then the faults of the names; out of memory.
+#[tactic(auto, using(crate::proofs::ResolutionFound::settles_faults, crate::proofs::ResolutionFound::settles_ok))]
+pub fn settle_state(mut state: ResolverState) -> Result<Resolution, SettleFault>
+    ensures { SettlesTo state result }
 {
-    let number = held.name_count();
+    let number = state.name_count();
     if number > MOST_NAMES {
         return Err(SettleFault::Limit(LimitFault {
             which: LimitKind::Names,
             number: number as u64,
         }));
     }
-    let Ok(()) = held.mark_made() else {
+    let Ok(()) = state.mark_made() else {
         return Err(SettleFault::NoMemory);
     };
-    let Ok(faults) = held.faults() else {
+    let Ok(faults) = state.faults() else {
         return Err(SettleFault::NoMemory);
     };
     if has_faults(&faults) {
         return Err(SettleFault::Faults(faults));
     }
-    let Ok(resolution) = held.into_resolution() else {
+    let Ok(resolution) = state.into_resolution() else {
         return Err(SettleFault::NoMemory);
     };
     Ok(resolution)

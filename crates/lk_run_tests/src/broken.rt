@@ -1,4 +1,4 @@
-//! A link of five objects, each of which is broken in ten ways: its fault is told, and the output stays as it was.
+//! A link of five objects, each of which is broken in ten ways: its fault is reported, and the output stays as it was.
 //!
 //! The objects have one form: 16 bytes of code at 64, one relocation at 80, three symbols at 104, and six section
 //! headers at the end, so that each way is a byte at a place.
@@ -13,9 +13,9 @@ use std::test::Fail;
 /// A byte of a file that is changed.
 #[derive(Clone, Copy)]
 struct Break {
-    /// Where it stands: its place, or how far it is from the end.
-    at: Place,
-    /// What stands there then.
+    /// Where it is: its place, or how far it is from the end.
+    at: Part,
+    /// What is there then.
     byte: u8,
     /// The fault that the file has then.
     fault: &'static [u8],
@@ -23,7 +23,7 @@ struct Break {
 
 /// A place in a file.
 #[derive(Clone, Copy)]
-enum Place {
+enum Part {
     /// So many bytes from its beginning.
     FromStart(usize),
     /// So many bytes before its end.
@@ -35,52 +35,52 @@ enum Place {
 /// flags and the alignment.
 const WAYS: [Break; 10] = [
     Break {
-        at: Place::FromStart(1),
+        at: Part::FromStart(1),
         byte: 0,
         fault: b"NotElf",
     },
     Break {
-        at: Place::FromStart(4),
+        at: Part::FromStart(4),
         byte: 1,
         fault: b"WrongClass",
     },
     Break {
-        at: Place::FromStart(18),
+        at: Part::FromStart(18),
         byte: 40,
         fault: b"WrongMachine",
     },
     Break {
-        at: Place::FromStart(16),
+        at: Part::FromStart(16),
         byte: 2,
         fault: b"WrongType",
     },
     Break {
-        at: Place::FromStart(60),
+        at: Part::FromStart(60),
         byte: 7,
         fault: b"BadTable 0",
     },
     Break {
-        at: Place::FromStart(134),
+        at: Part::FromStart(134),
         byte: 9,
         fault: b"BadSymbol 1",
     },
     Break {
-        at: Place::FromStart(132),
+        at: Part::FromStart(132),
         byte: 0x1a,
         fault: b"UnsupportedSymbol 1",
     },
     Break {
-        at: Place::FromStart(92),
+        at: Part::FromStart(92),
         byte: 3,
         fault: b"BadRela 2 0",
     },
     Break {
-        at: Place::BeforeEnd(311),
+        at: Part::BeforeEnd(311),
         byte: 8,
         fault: b"Compressed 1",
     },
     Break {
-        at: Place::BeforeEnd(272),
+        at: Part::BeforeEnd(272),
         byte: 3,
         fault: b"BadTable 1",
     },
@@ -105,8 +105,8 @@ fn object_of(alloc: Global, number: usize) -> Result<Bytes, Fail> {
 /// The file broken in this way.
 fn broken(alloc: Global, file: &Bytes, way: &Break) -> Result<Bytes, Fail> {
     let at = match way.at {
-        Place::FromStart(at) => at,
-        Place::BeforeEnd(at) => file.as_slice().len().saturating_sub(at),
+        Part::FromStart(at) => at,
+        Part::BeforeEnd(at) => file.as_slice().len().saturating_sub(at),
     };
     changed(alloc, file, at, way.byte)
 }
@@ -128,7 +128,7 @@ fn link_with(alloc: Global, path: &str, file: Bytes) -> Result<Ended, Fail> {
 }
 
 /// The text of a fault of an input.
-fn told(alloc: Global, path: &str, fault: &[u8]) -> Result<Vec<u8>, Fail> {
+fn reported(alloc: Global, path: &str, fault: &[u8]) -> Result<Vec<u8>, Fail> {
     let mut text = Vec::from_slice(alloc, b"error: ")?;
     text.extend_from_slice(path.as_bytes())?;
     text.extend_from_slice(b": ")?;
@@ -137,18 +137,18 @@ fn told(alloc: Global, path: &str, fault: &[u8]) -> Result<Vec<u8>, Fail> {
     Ok(text)
 }
 
-/// Whether the link with the file of this number broken in this way tells it.
-fn is_told(alloc: Global, number: usize, path: &str, way: &Break) -> Result<bool, Fail> {
+/// Whether the link with the file of this number broken in this way reports it.
+fn is_reported(alloc: Global, number: usize, path: &str, way: &Break) -> Result<bool, Fail> {
     let file = broken(alloc, &object_of(alloc, number)?, way)?;
     let ended = link_with(alloc, path, file)?;
-    Ok(ended.refused(1, told(alloc, path, way.fault)?.as_slice()))
+    Ok(ended.refused(1, reported(alloc, path, way.fault)?.as_slice()))
 }
 
-/// Whether the link with the file of this number cut by a byte tells it.
-fn is_cut_told(alloc: Global, number: usize, path: &str) -> Result<bool, Fail> {
+/// Whether the link with the file of this number cut by a byte reports it.
+fn is_cut_reported(alloc: Global, number: usize, path: &str) -> Result<bool, Fail> {
     let file = cut(alloc, &object_of(alloc, number)?)?;
     let ended = link_with(alloc, path, file)?;
-    Ok(ended.refused(1, told(alloc, path, b"BadTable 0")?.as_slice()))
+    Ok(ended.refused(1, reported(alloc, path, b"BadTable 0")?.as_slice()))
 }
 
 #[test]
@@ -161,12 +161,12 @@ fn five_objects_are_linked(rt: HostRuntime) -> Result<(), Fail> {
 }
 
 #[test]
-fn each_broken_input_is_told(rt: HostRuntime) -> Result<(), Fail> {
+fn each_broken_input_is_reported(rt: HostRuntime) -> Result<(), Fail> {
     for (number, path) in PATHS.iter().enumerate() {
         for way in &WAYS {
-            assert!(rt; is_told(rt.alloc(), number, path, way)?);
+            assert!(rt; is_reported(rt.alloc(), number, path, way)?);
         }
-        assert!(rt; is_cut_told(rt.alloc(), number, path)?);
+        assert!(rt; is_cut_reported(rt.alloc(), number, path)?);
     }
     Ok(())
 }

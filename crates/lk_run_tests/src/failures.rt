@@ -28,7 +28,7 @@ fn with_failing_files(alloc: Global, n: u64) -> Result<Ended, Fail> {
 }
 
 #[test]
-fn a_file_that_cannot_be_read_is_told(rt: HostRuntime) -> Result<(), Fail> {
+fn a_file_that_cannot_be_read_is_reported(rt: HostRuntime) -> Result<(), Fail> {
     let a = b"error: cannot read a.o\n".as_slice();
     let b = b"error: cannot read b.o\n".as_slice();
     let c = b"error: cannot read c.o\n".as_slice();
@@ -49,7 +49,7 @@ fn with_failing_device(alloc: Global, n: u64) -> Result<Ended, Fail> {
 }
 
 #[test]
-fn a_device_that_fails_is_told(rt: HostRuntime) -> Result<(), Fail> {
+fn a_device_that_fails_is_reported(rt: HostRuntime) -> Result<(), Fail> {
     for n in [1, 2, 3, 4] {
         let ended = with_failing_device(rt.alloc(), n)?;
         assert!(rt; ended.says(4, b"error: output device failed\n"));

@@ -9,7 +9,7 @@ use std::test::Fail;
 /// Sixteen bytes of code, or of data; the field is its bytes 5 to 8.
 const CODE: &[u8] = b"0123456789abcdef";
 
-/// Where the first section stands in the file.
+/// Where the first section is in the file.
 const FIRST: usize = 0x1000;
 
 /// The types R_X86_64_32S and R_X86_64_TPOFF32 (psABI "Relocation Types").

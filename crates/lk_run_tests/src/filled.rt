@@ -1,4 +1,4 @@
-//! What stands in an image where no piece does.
+//! What is in an image where no piece does.
 
 use crate::making::{Part, code, function, leaf, object};
 use crate::running::alone;
@@ -24,7 +24,7 @@ const BEHIND_UNIT: &[u8] = b"\x0c\0\0\0\x04\0\0\0\0\0\x08\0\0\0\0\0";
 /// The place of the number of program headers in a file's header (gABI "ELF Header").
 const PROGRAM_HEADERS: usize = 56;
 
-/// Where the first section stands in the file, the code on the page behind frames, and the debug unit behind the two
+/// Where the first section is in the file, the code on the page behind frames, and the debug unit behind the two
 /// tables of addresses, which have rooms of 64 bytes on the page behind the code.
 const FIRST: usize = 0x1000;
 

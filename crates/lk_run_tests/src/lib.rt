@@ -1,7 +1,7 @@
 //! Tests of the whole link, through the call that the program makes: from words and files in memory to the
 //! image, what was said, and the exit status.
 //!
-//! They stand in a crate of their own above the driver, since a crate with tests is proved twice. `making` makes
+//! They are in a crate of their own above the driver, since a crate with tests is proved twice. `making` makes
 //! objects, `running` links them; `links` has links that succeed, `fields` and `filled` look at single bytes of
 //! their images, `replaced` links onto files that were there before; `refusals` and `words` have links that are
 //! refused, `failures` those in which a call of the outside fails, and `broken` a link whose inputs are broken one

@@ -16,7 +16,7 @@ const CALL: &[u8] = b"\x90\x90\x90\x90\xe8\0\0\0\0\x90\x90\x90\x90\x90\x90\xc3";
 /// Code that returns.
 const RETURN: &[u8] = b"\xc3\x90\x90\x90\x90\x90\x90\x90\x90\x90\x90\x90\x90\x90\x90\x90";
 
-/// Where the entry stands in the file's header, where the first section and the piece behind it stand in the file.
+/// Where the entry is in the file's header, where the first section and the piece behind it are in the file.
 const ENTRY: usize = 24;
 
 const FIRST: usize = 0x1000;
@@ -120,7 +120,7 @@ fn weak_function(alloc: Global) -> Result<Bytes, Fail> {
     object(alloc, &[code(RETURN)], &[weak], &[])
 }
 
-/// These files, and two in which `f` is a common block, of 4 and of 8 bytes; `g` stands behind the second.
+/// These files, and two in which `f` is a common block, of 4 and of 8 bytes; `g` is behind the second.
 fn with_blocks(alloc: Global, files: MemoryFiles) -> Result<MemoryFiles, Fail> {
     let four = object(alloc, &[], &[common(b"f", 4, 4)], &[])?;
     let eight = object(alloc, &[], &[common(b"f", 4, 8), common(b"g", 1, 1)], &[])?;
@@ -135,7 +135,7 @@ fn blocks(alloc: Global) -> Result<MemoryFiles, Fail> {
 }
 
 #[test]
-fn the_greatest_common_block_stands_before_a_weak_definition(rt: HostRuntime) -> Result<(), Fail> {
+fn the_greatest_common_block_is_at_before_a_weak_definition(rt: HostRuntime) -> Result<(), Fail> {
     let mut files = blocks(rt.alloc())?;
     let ended = link(rt.alloc(), "a.o b.o 4.o 8.o", &mut files)?;
     assert!(rt; ended.is_done());

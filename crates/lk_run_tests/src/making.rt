@@ -206,7 +206,7 @@ impl Maker {
     }
 }
 
-/// The header of a file whose section headers stand there, so many, of which the last has the names (gABI "ELF
+/// The header of a file whose section headers are there, so many, of which the last has the names (gABI "ELF
 /// Header").
 fn file_header(at: u64, count: u64) -> [u64; 8] {
     let last = count.saturating_sub(1);

@@ -1,4 +1,4 @@
-//! Links that are refused: what is told of them, and that the output stays as it was.
+//! Links that are refused: what is reported of them, and that the output stays as it was.
 
 use crate::making::{
     ABSOLUTE, Part, Relocation, Symbol, caller, changed, code, cut, function, leaf, object,
@@ -27,7 +27,7 @@ fn together(alloc: Global, a: Bytes, b: Bytes) -> Result<Ended, Fail> {
 }
 
 #[test]
-fn two_strong_definitions_are_told(rt: HostRuntime) -> Result<(), Fail> {
+fn two_strong_definitions_are_reported(rt: HostRuntime) -> Result<(), Fail> {
     let both = [function(b"_start"), function(b"f")];
     let a = object(rt.alloc(), &[code(CODE)], &both, &[])?;
     let b = leaf(rt.alloc(), CODE, b"f")?;
@@ -37,7 +37,7 @@ fn two_strong_definitions_are_told(rt: HostRuntime) -> Result<(), Fail> {
 }
 
 #[test]
-fn an_undefined_name_is_told_with_its_place(rt: HostRuntime) -> Result<(), Fail> {
+fn an_undefined_name_is_reported_with_its_place(rt: HostRuntime) -> Result<(), Fail> {
     let file = caller(rt.alloc(), CODE, b"_start", undefined(b"g"))?;
     let ended = alone(rt.alloc(), file)?;
     assert!(rt; ended.refused(1, b"error: undefined g at a.o:1+0x5\n"));
@@ -45,7 +45,7 @@ fn an_undefined_name_is_told_with_its_place(rt: HostRuntime) -> Result<(), Fail>
 }
 
 #[test]
-fn an_entry_that_is_not_defined_is_told(rt: HostRuntime) -> Result<(), Fail> {
+fn an_entry_that_is_not_defined_is_reported(rt: HostRuntime) -> Result<(), Fail> {
     let file = leaf(rt.alloc(), CODE, b"f")?;
     let ended = alone(rt.alloc(), file)?;
     assert!(rt; ended.refused(1, b"error: no entry _start\n"));
@@ -53,7 +53,7 @@ fn an_entry_that_is_not_defined_is_told(rt: HostRuntime) -> Result<(), Fail> {
 }
 
 #[test]
-fn a_value_that_does_not_fit_is_told(rt: HostRuntime) -> Result<(), Fail> {
+fn a_value_that_does_not_fit_is_reported(rt: HostRuntime) -> Result<(), Fail> {
     let far = Symbol {
         section: ABSOLUTE,
         value: 0x1_0000_0000,
@@ -65,7 +65,7 @@ fn a_value_that_does_not_fit_is_told(rt: HostRuntime) -> Result<(), Fail> {
 }
 
 #[test]
-fn zeros_that_no_memory_holds_are_told_with_their_number(rt: HostRuntime) -> Result<(), Fail> {
+fn zeros_that_no_memory_holds_are_reported_with_their_number(rt: HostRuntime) -> Result<(), Fail> {
     let parts = [code(b""), zeros(0x8000_0000_0000_0000)];
     let file = object(rt.alloc(), &parts, &[function(b"_start")], &[])?;
     let ended = alone(rt.alloc(), file)?;
@@ -102,7 +102,7 @@ fn a_shared_object_waits(rt: HostRuntime) -> Result<(), Fail> {
 }
 
 #[test]
-fn a_missing_input_is_told_and_none_is_read(rt: HostRuntime) -> Result<(), Fail> {
+fn a_missing_input_is_reported_and_none_is_read(rt: HostRuntime) -> Result<(), Fail> {
     let a = leaf(rt.alloc(), CODE, b"_start")?;
     let mut files = one_file(rt.alloc(), a)?;
     let ended = link(rt.alloc(), "a.o b.o c.o", &mut files)?;
@@ -112,7 +112,7 @@ fn a_missing_input_is_told_and_none_is_read(rt: HostRuntime) -> Result<(), Fail>
 }
 
 #[test]
-fn files_of_another_kind_are_told(rt: HostRuntime) -> Result<(), Fail> {
+fn files_of_another_kind_are_reported(rt: HostRuntime) -> Result<(), Fail> {
     let kinds: [(&[u8], &[u8]); 3] = [
         (b"", b"error: a.o: NotElf\n"),
         (b"!<arch>\n", b"error: a.o: Archive\n"),
@@ -126,7 +126,7 @@ fn files_of_another_kind_are_told(rt: HostRuntime) -> Result<(), Fail> {
 }
 
 #[test]
-fn a_section_table_that_ends_behind_the_file_is_told(rt: HostRuntime) -> Result<(), Fail> {
+fn a_section_table_that_ends_behind_the_file_is_reported(rt: HostRuntime) -> Result<(), Fail> {
     let whole = leaf(rt.alloc(), CODE, b"_start")?;
     let ended = alone(rt.alloc(), cut(rt.alloc(), &whole)?)?;
     assert!(rt; ended.refused(1, b"error: a.o: BadTable 0\n"));
@@ -134,7 +134,7 @@ fn a_section_table_that_ends_behind_the_file_is_told(rt: HostRuntime) -> Result<
 }
 
 #[test]
-fn all_faulty_inputs_are_told(rt: HostRuntime) -> Result<(), Fail> {
+fn all_faulty_inputs_are_reported(rt: HostRuntime) -> Result<(), Fail> {
     let empty = Bytes::from_slice(rt.alloc(), b"")?;
     let whole = leaf(rt.alloc(), CODE, b"_start")?;
     let ended = together(rt.alloc(), empty, cut(rt.alloc(), &whole)?)?;

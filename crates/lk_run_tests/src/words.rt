@@ -21,7 +21,7 @@ fn tried(alloc: Global, line: &str) -> Result<(Ended, u32), Fail> {
 }
 
 #[test]
-fn faulty_words_are_told_by_their_number(rt: HostRuntime) -> Result<(), Fail> {
+fn faulty_words_are_reported_by_their_number(rt: HostRuntime) -> Result<(), Fail> {
     let rows: [(&str, &[u8]); 6] = [
         ("-o out", b"usage: no input\n"),
         ("--start-lib a.o", b"usage: word 1: lib not ended\n"),
@@ -39,7 +39,7 @@ fn faulty_words_are_told_by_their_number(rt: HostRuntime) -> Result<(), Fail> {
 }
 
 #[test]
-fn what_is_not_built_yet_is_told_before_anything_is_read(rt: HostRuntime) -> Result<(), Fail> {
+fn what_is_not_built_yet_is_reported_before_anything_is_read(rt: HostRuntime) -> Result<(), Fail> {
     for line in [
         "--incremental-update a.o",
         "--incremental -o out a.o",

@@ -23,7 +23,7 @@ all-append P (x ∷ xs) ys h k = (h.0, all-append P xs ys h.1 k)
 some_same : {X : Type 0} (a b : X) → Some a ≡ Some b → a ≡ b
 some_same a b e = cc
 
--- a search lists members of its queue, each at most as often as it stands there
+-- a search lists members of its queue, each at most as often as it is there
 module _ {S M : Type 0} (wants : S → M → Bool) (step : S → M → S) (p : M → Bool) (P : M → Type 0) where
   turn-times : (passes : M → Bool) (past ms : List M) (found : M × List M) → turn passes past ms ≡ Some found → times p (found.0 ∷ found.1) ≡ times p past + times p ms
   turn-times passes past [] found e = absurd (cc)
@@ -168,22 +168,22 @@ pub added_once : (entry : List ℕ) (inputs : List Input) (k : ℕ) → times (i
 unfolding added_inputs
 added_once entry inputs k =
     let most : times (is_numbered k) (fold (with_item entry) [] (items_of inputs)) ≤ times (is_numbered k) [] + in_items (is_numbered k) (items_of inputs) = added-times (is_numbered k) entry [] (items_of inputs) in
-    let held : in_items (is_numbered k) (items_of inputs) ≡ times (is_numbered k) (map (λ (row : ℕ × Numbered). row.1) (numbered_from 0 inputs)) = items-times (is_numbered k) (numbered_from 0 inputs) in
+    let stored : in_items (is_numbered k) (items_of inputs) ≡ times (is_numbered k) (map (λ (row : ℕ × Numbered). row.1) (numbered_from 0 inputs)) = items-times (is_numbered k) (numbered_from 0 inputs) in
     let once : times (is_numbered k) (map (λ (row : ℕ × Numbered). row.1) (numbered_from 0 inputs)) ≤ 1 = numbers-once 0 k inputs in
     omega arith
 
--- an input stands in the command under its number, with its summary
-abbrev pub StandsIn : List Input → Numbered → Type 0
-StandsIn inputs x = (y : Input) × (slice_get inputs x.number ≡ Some y) × (y.summary ≡ x.summary)
+-- an input is in the command under its number, with its summary
+abbrev pub IsIn : List Input → Numbered → Type 0
+IsIn inputs x = (y : Input) × (slice_get inputs x.number ≡ Some y) × (y.summary ≡ x.summary)
 
-numbered-stand : (inputs : List Input) (n : ℕ) (xs : List Input) → ((k : ℕ) → slice_get inputs (n + k) ≡ slice_get xs k) → AllByRecursion (λ (row : ℕ × Numbered). StandsIn inputs row.1) (numbered_from n xs)
-numbered-stand inputs n [] h = tt
-numbered-stand inputs n (x ∷ xs) h = (
+numbered-are_at : (inputs : List Input) (n : ℕ) (xs : List Input) → ((k : ℕ) → slice_get inputs (n + k) ≡ slice_get xs k) → AllByRecursion (λ (row : ℕ × Numbered). IsIn inputs row.1) (numbered_from n xs)
+numbered-are_at inputs n [] h = tt
+numbered-are_at inputs n (x ∷ xs) h = (
   (x, ap (slice_get inputs) (let same : n ≡ n + 0 = omega arith in same) ∙ h 0, refl),
-  numbered-stand inputs (n + 1) xs (λ k. ap (slice_get inputs) (let same : n + 1 + k ≡ n + suc k = omega arith in same) ∙ h (suc k)),
+  numbered-are_at inputs (n + 1) xs (λ k. ap (slice_get inputs) (let same : n + 1 + k ≡ n + suc k = omega arith in same) ∙ h (suc k)),
 )
 
-pub added_stand : (entry : List ℕ) (inputs : List Input) → AllByRecursion (StandsIn inputs) (added_inputs entry inputs)
+pub added_are_at : (entry : List ℕ) (inputs : List Input) → AllByRecursion (IsIn inputs) (added_inputs entry inputs)
 unfolding added_inputs
-added_stand entry inputs =
-    added-all (StandsIn inputs) entry [] (items_of inputs) tt (items-all (StandsIn inputs) (numbered_from 0 inputs) (numbered-stand inputs 0 inputs (λ k. ap (slice_get inputs) (let same : 0 + k ≡ k = omega arith in same))))
+added_are_at entry inputs =
+    added-all (IsIn inputs) entry [] (items_of inputs) tt (items-all (IsIn inputs) (numbered_from 0 inputs) (numbered-are_at inputs 0 inputs (λ k. ap (slice_get inputs) (let same : 0 + k ≡ k = omega arith in same))))

@@ -1,5 +1,5 @@
--- A list whose items stand in it once, put behind another, gives what the list gives that it was made of:
--- of slots and numbers, and of faults that are told once per name.
+-- A list whose items are in it once, put behind another, gives what the list gives that it was made of:
+-- of slots and numbers, and of faults that are reported once per name.
 use Rattle.std.proofs.Common.{◌≡◌, refl, sym, ap, ◌∙◌, ℕ, nat_eq, ◌==◌, ◌&&◌, ◌||◌, Bool, true, false, cond, List, [], ◌∷◌, ◌++◌, fold, Option, Some, None}
 use Rattle.std.proofs.lemmas.List.Folds.{list_any-append}
 use Rattle.std.proofs.lemmas.List.Sums.{fold-append}
@@ -14,7 +14,7 @@ use Rattle.lk_model.specs.declared.layouts.GotKey.{GotKey}
 use Rattle.lk_model.specs.declared.layouts.GotOwner.TheVariants as owner
 use Rattle.lk_model.specs.NeedsOf.{got_key_eq, owner_eq}
 use Rattle.lk_model.specs.Numbered.{distinct, with_new}
-use Rattle.lk_model.specs.ScanFaults.{is_empty_copy_of, is_told, is_undefined_of, told_once, with_fault}
+use Rattle.lk_model.specs.ScanFaults.{is_empty_copy_of, is_reported, is_undefined_of, reported_once, with_fault}
 use Rattle.lk_resolve.proofs.ListSets.{or_assoc, or_false, or_true}
 
 -- two items that are the same are the same as the same items
@@ -83,7 +83,7 @@ slots_alike x y z e =
 pub slots-again : (seen xs : List GotKey) → fold (with_new got_key_eq) seen (distinct got_key_eq xs) ≡ fold (with_new got_key_eq) seen xs
 slots-again seen xs = once-again got_key_eq slots_alike seen xs
 
--- faults: by what a fault is told once, where it is
+-- faults: by what a fault is reported once, where it is
 abbrev once_by : Fault → Option (Bool × List ℕ)
 once_by (fault.Undefined name site) = Some (true, name)
 once_by (fault.CopyOfZero name site) = Some (false, name)
@@ -134,35 +134,35 @@ copied_alike name (fault.CopyOfZero other site) = nat_list_eq_equiv.symm other n
 copied_alike name (fault.ImportedTlsDirect a b) = refl
 copied_alike name (fault.Overflow a b c d e) = refl
 
-any_alike : (p q : Fault → Bool) → ((g : Fault) → p g ≡ q g) → (told : List Fault) → list_any p told ≡ list_any q told
+any_alike : (p q : Fault → Bool) → ((g : Fault) → p g ≡ q g) → (reported : List Fault) → list_any p reported ≡ list_any q reported
 any_alike p q h [] = refl
 any_alike p q h (g ∷ gs) = λ i. h g i || any_alike p q h gs i
 
-none_alike : (told : List Fault) → false ≡ list_any (λ (g : Fault). false) told
+none_alike : (reported : List Fault) → false ≡ list_any (λ (g : Fault). false) reported
 none_alike [] = refl
 none_alike (g ∷ gs) = none_alike gs
 
-told_alike : (told : List Fault) (f : Fault) → is_told told f ≡ list_any (same_fault f) told
-told_alike told (fault.Missing a) = none_alike told
-told_alike told (fault.Input a b) = none_alike told
-told_alike told (fault.MultipleDefinition a b c) = none_alike told
-told_alike told (fault.TlsMismatch a) = none_alike told
-told_alike told (fault.NoEntry a) = none_alike told
-told_alike told (fault.Undefined name site) = any_alike (is_undefined_of name) (λ g. same_key (Some (true, name)) (once_by g)) (undefined_alike name) told
-told_alike told (fault.DroppedLocal a) = none_alike told
-told_alike told (fault.Unsupported a b) = none_alike told
-told_alike told (fault.CopyOfZero name site) = any_alike (is_empty_copy_of name) (λ g. same_key (Some (false, name)) (once_by g)) (copied_alike name) told
-told_alike told (fault.ImportedTlsDirect a b) = none_alike told
-told_alike told (fault.Overflow a b c d e) = none_alike told
+reported_alike : (reported : List Fault) (f : Fault) → is_reported reported f ≡ list_any (same_fault f) reported
+reported_alike reported (fault.Missing a) = none_alike reported
+reported_alike reported (fault.Input a b) = none_alike reported
+reported_alike reported (fault.MultipleDefinition a b c) = none_alike reported
+reported_alike reported (fault.TlsMismatch a) = none_alike reported
+reported_alike reported (fault.NoEntry a) = none_alike reported
+reported_alike reported (fault.Undefined name site) = any_alike (is_undefined_of name) (λ g. same_key (Some (true, name)) (once_by g)) (undefined_alike name) reported
+reported_alike reported (fault.DroppedLocal a) = none_alike reported
+reported_alike reported (fault.Unsupported a b) = none_alike reported
+reported_alike reported (fault.CopyOfZero name site) = any_alike (is_empty_copy_of name) (λ g. same_key (Some (false, name)) (once_by g)) (copied_alike name) reported
+reported_alike reported (fault.ImportedTlsDirect a b) = none_alike reported
+reported_alike reported (fault.Overflow a b c d e) = none_alike reported
 
-told_new : (told fs : List Fault) → fold with_fault told fs ≡ fold (with_new same_fault) told fs
-told_new told [] = refl
-told_new told (f ∷ fs) =
-    ap (λ b. fold with_fault (cond b told (told ++ f ∷ [])) fs) (told_alike told f) ∙ told_new (with_new same_fault told f) fs
+reported_new : (reported fs : List Fault) → fold with_fault reported fs ≡ fold (with_new same_fault) reported fs
+reported_new reported [] = refl
+reported_new reported (f ∷ fs) =
+    ap (λ b. fold with_fault (cond b reported (reported ++ f ∷ [])) fs) (reported_alike reported f) ∙ reported_new (with_new same_fault reported f) fs
 
-pub faults-again : (told fs : List Fault) → fold with_fault told (told_once fs) ≡ fold with_fault told fs
-faults-again told fs =
-    told_new told (told_once fs)
-    ∙ ap (fold (with_new same_fault) told) (told_new [] fs)
-    ∙ once-again same_fault faults_alike told fs
-    ∙ sym (told_new told fs)
+pub faults-again : (reported fs : List Fault) → fold with_fault reported (reported_once fs) ≡ fold with_fault reported fs
+faults-again reported fs =
+    reported_new reported (reported_once fs)
+    ∙ ap (fold (with_new same_fault) reported) (reported_new [] fs)
+    ∙ once-again same_fault faults_alike reported fs
+    ∙ sym (reported_new reported fs)

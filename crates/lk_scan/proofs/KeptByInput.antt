@@ -16,7 +16,7 @@ use Rattle.lk_model.specs.References.{Sited, sited_at, sited_in, sited_of}
 use Rattle.lk_model.specs.Views.{Input, KeptPiece}
 use Rattle.lk_scan.specs.LinkScans.{input_references}
 use Rattle.lk_scan.specs.Scans.{references_in}
-use Rattle.lk_scan.proofs.AddedOnce.{StandsIn, is_numbered, times, times-append}
+use Rattle.lk_scan.proofs.AddedOnce.{IsIn, is_numbered, times, times-append}
 
 -- an added input with the signatures that were claimed before it
 abbrev Claimed : Type 0
@@ -85,7 +85,7 @@ kept_any n s (c ∷ cs) =
     list_any-append (is_section_piece n s) (left_of c) (flat_map left_of cs)
     ∙ (λ i. left_any n s c i || kept_any n s cs i)
 
--- an input that stands once among those that are added tells alone which of its sections are kept
+-- an input that is once among those that are added reports alone which of its sections are kept
 abbrev claims_number : ℕ → Claimed → Bool
 claims_number n c = c.1.number == n
 
@@ -142,14 +142,14 @@ module _ (found : Found) (inputs : List Input) (cs : List Claimed) (sections : f
       by false true h later = absurd (cc)
       by false false h later = later
 
-  input_sited : (before : List Claimed) (c : Claimed) (later : List Claimed) → cs ≡ before ++ c ∷ later → StandsIn inputs c.1 → sited_of found.names inputs (left_of c) ≡ input_references found inputs c.1.number
-  input_sited before c later e stands =
-      let y : Input = stands.0 in
-      pieces_sited c y stands.1 (own_kept before c later e) c.1.summary.pieces
-      ∙ ap (λ (s : InputSummary). references_in found y.elf y.summary c.1.number s.pieces) (sym stands.2)
-      ∙ ap (λ (o : Option Input). elim o [ None ↦ [] | Some x ↦ references_in found x.elf x.summary c.1.number x.summary.pieces ]) (sym stands.1)
+  input_sited : (before : List Claimed) (c : Claimed) (later : List Claimed) → cs ≡ before ++ c ∷ later → IsIn inputs c.1 → sited_of found.names inputs (left_of c) ≡ input_references found inputs c.1.number
+  input_sited before c later e is_at =
+      let y : Input = is_at.0 in
+      pieces_sited c y is_at.1 (own_kept before c later e) c.1.summary.pieces
+      ∙ ap (λ (s : InputSummary). references_in found y.elf y.summary c.1.number s.pieces) (sym is_at.2)
+      ∙ ap (λ (o : Option Input). elim o [ None ↦ [] | Some x ↦ references_in found x.elf x.summary c.1.number x.summary.pieces ]) (sym is_at.1)
 
-  all_sited : (before later : List Claimed) → cs ≡ before ++ later → AllByRecursion (λ (c : Claimed). StandsIn inputs c.1) later → sited_of found.names inputs (flat_map left_of later) ≡ flat_map (input_references found inputs) (map (λ (c : Claimed). c.1.number) later)
+  all_sited : (before later : List Claimed) → cs ≡ before ++ later → AllByRecursion (λ (c : Claimed). IsIn inputs c.1) later → sited_of found.names inputs (flat_map left_of later) ≡ flat_map (input_references found inputs) (map (λ (c : Claimed). c.1.number) later)
   all_sited before [] e h = refl
   all_sited before (c ∷ later) e h =
       flat_map-append (λ (k : KeptPiece). sited_at found.names inputs k.key k.piece) (left_of c) (flat_map left_of later)
@@ -168,8 +168,8 @@ claimed_all : (P : Numbered → Type 0) (claimed : List (List ℕ)) (added : Lis
 claimed_all P claimed [] h = tt
 claimed_all P claimed (x ∷ xs) h = (h.0, claimed_all P (claimed ++ signatures_in x.summary) xs h.1)
 
-pub sited_by_input : (found : Found) (inputs : List Input) (added : List Numbered) → found.sections ≡ kept_sections added → ((n : ℕ) → times (is_numbered n) added ≤ 1) → AllByRecursion (StandsIn inputs) added → sited_of found.names inputs found.sections ≡ flat_map (input_references found inputs) (numbers_in added)
-sited_by_input found inputs added sections once stand =
+pub sited_by_input : (found : Found) (inputs : List Input) (added : List Numbered) → found.sections ≡ kept_sections added → ((n : ℕ) → times (is_numbered n) added ≤ 1) → AllByRecursion (IsIn inputs) added → sited_of found.names inputs found.sections ≡ flat_map (input_references found inputs) (numbers_in added)
+sited_by_input found inputs added sections once are_at =
     ap (sited_of found.names inputs) sections
-    ∙ all_sited found inputs (with_claims [] added) sections (λ n. subst (λ k. k ≤ 1) (sym (claimed_times n [] added)) (once n)) [] (with_claims [] added) refl (claimed_all (StandsIn inputs) [] added stand)
+    ∙ all_sited found inputs (with_claims [] added) sections (λ n. subst (λ k. k ≤ 1) (sym (claimed_times n [] added)) (once n)) [] (with_claims [] added) refl (claimed_all (IsIn inputs) [] added are_at)
     ∙ ap (flat_map (input_references found inputs)) (claimed_numbers [] added)

@@ -19,7 +19,7 @@ use Rattle.lk_model.specs.Numbered.{with_new}
 use Rattle.lk_model.specs.Objects.{relocations_in, summary_in}
 use Rattle.lk_model.specs.References.{Sited, recorded, recorded_of, reference_of, references_of, sited_in, sited_of}
 use Rattle.lk_model.specs.Resolving.{paths_of, resolve}
-use Rattle.lk_model.specs.ScanFaults.{faults_among, faults_at, faults_in, scan_faults, told_once, with_fault}
+use Rattle.lk_model.specs.ScanFaults.{faults_among, faults_at, faults_in, scan_faults, reported_once, with_fault}
 use Rattle.lk_model.specs.SharedObjects.{shared_summary_in}
 use Rattle.lk_model.specs.Views.{Input, Ref}
 use Rattle.lk_model.proofs.Finding.{found_in-resolve, sited_of-sections}
@@ -27,7 +27,7 @@ use Rattle.lk_scan.specs.declared.noting.Scan.{Scan}
 use Rattle.lk_scan.specs.LinkScans.{ObjectsAreScanned, ReferencesByInput, ScansAreTheLinks, SharedAreEmpty, all_joined, input_references, input_scan, joined, scan_of}
 use Rattle.lk_scan.specs.Noted.{nothing_noted}
 use Rattle.lk_scan.specs.Scans.{references_in}
-use Rattle.lk_scan.proofs.AddedOnce.{added_once, added_stand}
+use Rattle.lk_scan.proofs.AddedOnce.{added_once, added_are_at}
 use Rattle.lk_scan.proofs.Joined.{faults-again}
 use Rattle.lk_scan.proofs.KeptByInput.{sited_by_input}
 use Rattle.lk_scan.proofs.NeedsJoined.{needs-again, needs_after}
@@ -37,12 +37,12 @@ module _ (found : Found) (inputs : List Input) where
   abbrev after : Scan → List Sited → Scan
   after s sited = record {
     needs = needs_after found s.needs (loaded_references sited);
-    told = fold with_fault s.told (faults_among found inputs sited);
+    reported = fold with_fault s.reported (faults_among found inputs sited);
     references = s.references ++ recorded_of (references_of sited);
   }
 
   after-nil : (s : Scan) → s ≡ after s []
-  after-nil s = λ i. record { needs = s.needs; told = s.told; references = sym (append-nil s.references) i }
+  after-nil s = λ i. record { needs = s.needs; reported = s.reported; references = sym (append-nil s.references) i }
 
   -- more references after others
   grown : {A B : Type 0} (step : List A → A → List A) (start : List A) (needs : B → List A) (xs ys : List B) → fold step (fold step start (flat_map needs xs)) (flat_map needs ys) ≡ fold step start (flat_map needs (xs ++ ys))
@@ -64,22 +64,22 @@ module _ (found : Found) (inputs : List Input) where
       ap recorded_of (map-append (λ (x : Sited). x.1) a b) ∙ filter_map-append recorded (references_of a) (references_of b)
 
   after-append : (s : Scan) (a b : List Sited) → after (after s a) b ≡ after s (a ++ b)
-  after-append s a b = λ i. record { needs = needs i; told = told i; references = references i }
+  after-append s a b = λ i. record { needs = needs i; reported = reported i; references = references i }
     where
       needs : needs_after found (needs_after found s.needs (loaded_references a)) (loaded_references b) ≡ needs_after found s.needs (loaded_references (a ++ b))
       needs = needs-append s.needs (loaded_references a) (loaded_references b) ∙ ap (needs_after found s.needs) (sym (loaded-append a b))
 
-      told : fold with_fault (fold with_fault s.told (faults_among found inputs a)) (faults_among found inputs b) ≡ fold with_fault s.told (faults_among found inputs (a ++ b))
-      told =
-          sym (fold-append with_fault s.told (faults_among found inputs a) (faults_among found inputs b))
-          ∙ ap (fold with_fault s.told) (sym (flat_map-append (λ (x : Sited). elim (slice_get inputs x.1.input) [ None ↦ [] | Some i ↦ faults_at found i.elf x ]) a b))
+      reported : fold with_fault (fold with_fault s.reported (faults_among found inputs a)) (faults_among found inputs b) ≡ fold with_fault s.reported (faults_among found inputs (a ++ b))
+      reported =
+          sym (fold-append with_fault s.reported (faults_among found inputs a) (faults_among found inputs b))
+          ∙ ap (fold with_fault s.reported) (sym (flat_map-append (λ (x : Sited). elim (slice_get inputs x.1.input) [ None ↦ [] | Some i ↦ faults_at found i.elf x ]) a b))
 
       references : (s.references ++ recorded_of (references_of a)) ++ recorded_of (references_of b) ≡ s.references ++ recorded_of (references_of (a ++ b))
       references =
           append_assoc s.references (recorded_of (references_of a)) (recorded_of (references_of b))
           ∙ ap (λ l. s.references ++ l) (sym (recorded-append a b))
 
-  -- the references of an input stand in it
+  -- the references of an input are in it
   relas_among : (input : ℕ) (x : Input) → slice_get inputs input ≡ Some x → (key : SectionKey) (section : ℕ) (rs : List Rela)
       → faults_among found inputs (map (λ (rela : Rela). (key, reference_of found.names x.summary input section rela)) rs) ≡ faults_in found x.elf (map (λ (rela : Rela). (key, reference_of found.names x.summary input section rela)) rs)
   relas_among input x e key section [] = refl
@@ -104,7 +104,7 @@ module _ (found : Found) (inputs : List Input) where
   scan_joined : (s : Scan) (x : Input) (sited : List Sited) → faults_among found inputs sited ≡ faults_in found x.elf sited → joined s (scan_of found x.elf sited) ≡ after s sited
   scan_joined s x sited same = λ i. record {
     needs = needs-again found s.needs sited i;
-    told = (faults-again s.told (faults_in found x.elf sited) ∙ ap (fold with_fault s.told) (sym same)) i;
+    reported = (faults-again s.reported (faults_in found x.elf sited) ∙ ap (fold with_fault s.reported) (sym same)) i;
     references = s.references ++ recorded_of (references_of sited);
   }
 
@@ -132,7 +132,7 @@ found_for options inputs = found_of (paths_of inputs) options.entry (added_input
 sections_sited : (options : OptionRecord) (inputs : List Input) → let found = found_for options inputs in sited_of found.names inputs found.sections ≡ flat_map (input_references found inputs) found.added
 unfolding found_of
 sections_sited options inputs =
-    sited_by_input (found_for options inputs) inputs (added_inputs options.entry inputs) refl (added_once options.entry inputs) (added_stand options.entry inputs)
+    sited_by_input (found_for options inputs) inputs (added_inputs options.entry inputs) refl (added_once options.entry inputs) (added_are_at options.entry inputs)
 
 kept_sited : (options : OptionRecord) (inputs : List Input) → let found = found_for options inputs in sited_of (resolve options inputs).names inputs (resolve options inputs).kept ≡ sited_of found.names inputs found.sections
 unfolding resolve
@@ -156,7 +156,7 @@ scans_are_the_links options inputs =
     ∙ ap (after found inputs nothing_noted) (sym (sections_sited options inputs))
     ∙ sym (λ i. record {
       needs = (resolve options inputs).needs;
-      told = told_once (faults_among (found_in-resolve options inputs i) inputs (kept_sited options inputs i));
+      reported = reported_once (faults_among (found_in-resolve options inputs i) inputs (kept_sited options inputs i));
       references = recorded_of (resolve options inputs).references;
     })
 

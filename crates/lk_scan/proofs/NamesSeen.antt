@@ -1,4 +1,4 @@
--- What the table tells of a name by its number.
+-- What the table reports of a name by its number.
 use Rattle.std.proofs.Common.{◌≡◌, refl, sym, ap, ◌∙◌, arith, ℕ, ◌+◌, ◌<◌, ◌≤◌, Bool, true, false, cond, not, nat_lt, ltb-false, ltb-true, get_or, List, [], ◌∷◌, ◌++◌, length, map, Option, Some, None, option_map, option_and_then, unwrap_or, slice_get}
 use Rattle.std.proofs.lemmas.List.{length-map}
 use Rattle.std.proofs.lemmas.List.FromFn.{get_or-map-range_with_len, length-map-range_with_len, map-range_with_len_more}
@@ -26,21 +26,21 @@ within p (x ∷ xs) = by (p x) (within p xs)
     by false later = omega arith
 
 -- a name that is found has its place, and another the number of all names
-place_told : (q n : ℕ) → q ≤ n → unwrap_or (cond (nat_lt q n) (Some q) None) n ≡ q
-place_told q n le = by (nat_lt q n) refl
+place_reported : (q n : ℕ) → q ≤ n → unwrap_or (cond (nat_lt q n) (Some q) None) n ≡ q
+place_reported q n le = by (nat_lt q n) refl
   where
     by : (b : Bool) → nat_lt q n ≡ b → unwrap_or (cond b (Some q) None) n ≡ q
     by true t = refl
     by false t = let ge : n ≤ q = ltb-false q n t in omega arith
 
-pub number_told : (rows : List NameRow) (name : List ℕ) → unwrap_or (number_of rows name) (length rows) ≡ number_of_name (all_symbols rows) name
-number_told rows name =
+pub number_reported : (rows : List NameRow) (name : List ℕ) → unwrap_or (number_of rows name) (length rows) ≡ number_of_name (all_symbols rows) name
+number_reported rows name =
     ap (unwrap_or (number_of rows name)) (sym (length-map rows symbols_in))
-    ∙ place_told (number_of_name (all_symbols rows) name) (length (all_symbols rows)) (within (λ (cs : Contributions). bytes_eq cs.name name) (all_symbols rows))
+    ∙ place_reported (number_of_name (all_symbols rows) name) (length (all_symbols rows)) (within (λ (cs : Contributions). bytes_eq cs.name name) (all_symbols rows))
 
 -- a name that is there
-pub import_told : (rows : List NameRow) (n : ℕ) (cs : Contributions) (w : Winner) → option_map symbols_in (slice_get rows n) ≡ Some cs → option_map row_winner (slice_get rows n) ≡ Some w → import_symbol cs w ≡ import_in rows n
-import_told rows n cs w = by (slice_get rows n)
+pub import_reported : (rows : List NameRow) (n : ℕ) (cs : Contributions) (w : Winner) → option_map symbols_in (slice_get rows n) ≡ Some cs → option_map row_winner (slice_get rows n) ≡ Some w → import_symbol cs w ≡ import_in rows n
+import_reported rows n cs w = by (slice_get rows n)
   where
     by : (o : Option NameRow) → option_map symbols_in o ≡ Some cs → option_map row_winner o ≡ Some w → import_symbol cs w ≡ option_and_then row_import o
     by None e f = absurd (cc)
@@ -49,8 +49,8 @@ import_told rows n cs w = by (slice_get rows n)
         let wins : row_winner row ≡ w = cc in
         λ i. import_symbol (sym same i) (sym wins i)
 
-pub target_told : (rows : List NameRow) (n : ℕ) (weak : Bool) (cs : Contributions) (w : Winner) → option_map symbols_in (slice_get rows n) ≡ Some cs → option_map row_winner (slice_get rows n) ≡ Some w → target_with n weak cs w ≡ name_target rows n weak
-target_told rows n weak cs w = by (slice_get rows n)
+pub target_reported : (rows : List NameRow) (n : ℕ) (weak : Bool) (cs : Contributions) (w : Winner) → option_map symbols_in (slice_get rows n) ≡ Some cs → option_map row_winner (slice_get rows n) ≡ Some w → target_with n weak cs w ≡ name_target rows n weak
+target_reported rows n weak cs w = by (slice_get rows n)
   where
     by : (o : Option NameRow) → option_map symbols_in o ≡ Some cs → option_map row_winner o ≡ Some w → target_with n weak cs w ≡ elim o [ None ↦ unknown_target n weak | Some row ↦ target_with n weak row.contributions (row_winner row) ]
     by None e f = absurd (cc)
@@ -79,8 +79,8 @@ pub unnamed : (rows : List NameRow) (n : ℕ) (site : Site) → length rows ≤ 
 unnamed rows n site le = ap (λ (o : Option NameRow). elim o [ None ↦ [] | Some row ↦ fault.Undefined row.contributions.name site ∷ [] ]) (slice_get_past rows n le)
 
 -- what is found once for all objects
-to_weak_told : (rows : List NameRow) (n : ℕ) (weak : Bool) → to_weak n weak (name_target rows n false) ≡ name_target rows n weak
-to_weak_told rows n weak = by weak (slice_get rows n)
+to_weak_reported : (rows : List NameRow) (n : ℕ) (weak : Bool) → to_weak n weak (name_target rows n false) ≡ name_target rows n weak
+to_weak_reported rows n weak = by weak (slice_get rows n)
   where
     by : (b : Bool) (o : Option NameRow) → to_weak n b (elim o [ None ↦ unknown_target n false | Some row ↦ target_with n false row.contributions (row_winner row) ]) ≡ elim o [ None ↦ unknown_target n b | Some row ↦ target_with n b row.contributions (row_winner row) ]
     by true None = refl
@@ -88,15 +88,15 @@ to_weak_told rows n weak = by weak (slice_get rows n)
     by true (Some row) = refl
     by false (Some row) = refl
 
-pub meaning_told : (rows : List NameRow) (targets : List Target) (n : ℕ) (weak : Bool) (t : Target) → targets ≡ meanings_of rows → nat_lt n (length targets) ≡ true → t ≡ get_or targets n t → to_weak n weak t ≡ name_target rows n weak
-meaning_told rows targets n weak t same within found =
+pub meaning_reported : (rows : List NameRow) (targets : List Target) (n : ℕ) (weak : Bool) (t : Target) → targets ≡ meanings_of rows → nat_lt n (length targets) ≡ true → t ≡ get_or targets n t → to_weak n weak t ≡ name_target rows n weak
+meaning_reported rows targets n weak t same within found =
     let f : ℕ → Target = λ k. name_target rows k false in
     let size : length targets ≡ length rows = ap length same ∙ length-map-range_with_len f 0 (length rows) in
     let few : n < length targets = ltb-true n (length targets) within in
     let inside : n < length rows = omega arith in
     let place : 0 + n ≡ n = omega arith in
     let is : t ≡ name_target rows n false = found ∙ ap (λ (ts : List Target). get_or ts n t) same ∙ get_or-map-range_with_len f 0 (length rows) n n t inside place in
-    ap (to_weak n weak) is ∙ to_weak_told rows n weak
+    ap (to_weak n weak) is ∙ to_weak_reported rows n weak
 
 pub meaning_absent : (rows : List NameRow) (targets : List Target) (n : ℕ) (weak : Bool) → targets ≡ meanings_of rows → nat_lt n (length targets) ≡ false → unknown_target n weak ≡ name_target rows n weak
 meaning_absent rows targets n weak same past =

@@ -1,4 +1,4 @@
--- Needs that go on by references: one after another, and put behind others as they stand.
+-- Needs that go on by references: one after another, and put behind others as they are.
 use Rattle.std.proofs.Common.{◌≡◌, nat_eq, List, fold, flat_map}
 use Rattle.lk_model.specs.declared.layouts.Needs.{Needs}
 use Rattle.lk_model.specs.Finding.{Found}

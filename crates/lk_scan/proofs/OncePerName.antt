@@ -1,4 +1,4 @@
--- Faults that are told once per name, and the names that they were told of.
+-- Faults that are reported once per name, and the names that they were reported of.
 use Rattle.std.proofs.Common.{◌≡◌, refl, sym, ap, ◌∙◌, ℕ, Bool, true, false, cond, ◌||◌, if◌then◌else◌, List, [], ◌∷◌, ◌++◌, Option, Some, None, filter_map}
 use Rattle.std.proofs.lemmas.List.{append-nil}
 use Rattle.std.proofs.lemmas.List.Elements.{filter_map-append}
@@ -43,7 +43,7 @@ copied_alike name (fault.CopyOfZero other site) = nat_list_eq_equiv.symm other n
 copied_alike name (fault.ImportedTlsDirect a b) = refl
 copied_alike name (fault.Overflow a b c d e) = refl
 
--- a name is told of exactly where it is among the names that are told of
+-- a name is reported of exactly where it is among the names that are reported of
 module _ (test : Fault → Bool) (of : Fault → Option (List ℕ)) (name : List ℕ) (alike : (f : Fault) → test f ≡ named name (of f)) where
   split : (o : Option (List ℕ)) (rest : List (List ℕ)) → (named name o || list_any (bytes_eq name) rest) ≡ list_any (bytes_eq name) (cons_option o rest)
   split None rest = refl
@@ -67,7 +67,7 @@ module _ (of : Fault → Option (List ℕ)) (names : List (List ℕ)) (faults : 
   no_more : of f ≡ None → names ≡ filter_map of (faults ++ f ∷ [])
   no_more e = sym (append-nil names) ∙ one_more None e
 
--- a fault that is told of no name
+-- a fault that is reported of no name
 pub index_stays : (faults new : List Fault) (undefined copies : List (List ℕ)) (f : Fault) → IsIndexed faults undefined copies → undefined_name f ≡ None → empty_copy_name f ≡ None → new ≡ faults ++ f ∷ [] → IsIndexed new undefined copies
 index_stays faults new undefined copies f h u c e = record {
   undefined_names = no_more undefined_name undefined faults f h.undefined_names u ∙ ap (filter_map undefined_name) (sym e);
@@ -79,8 +79,8 @@ module _ (faults : List Fault) (undefined copies : List (List ℕ)) (name : List
   undefined_any : list_any (is_undefined_of name) faults ≡ list_any (bytes_eq name) undefined
   undefined_any = any_named (is_undefined_of name) undefined_name name (undefined_alike name) faults ∙ ap (list_any (bytes_eq name)) (sym h.undefined_names)
 
-  pub undefined_told : list_any (bytes_eq name) undefined ≡ true → with_fault faults (fault.Undefined name site) ≡ faults
-  undefined_told e = ap (λ b. cond b faults (faults ++ fault.Undefined name site ∷ [])) (undefined_any ∙ e)
+  pub undefined_reported : list_any (bytes_eq name) undefined ≡ true → with_fault faults (fault.Undefined name site) ≡ faults
+  undefined_reported e = ap (λ b. cond b faults (faults ++ fault.Undefined name site ∷ [])) (undefined_any ∙ e)
 
   pub undefined_anew : list_any (bytes_eq name) undefined ≡ false → with_fault faults (fault.Undefined name site) ≡ faults ++ fault.Undefined name site ∷ []
   undefined_anew e = ap (λ b. cond b faults (faults ++ fault.Undefined name site ∷ [])) (undefined_any ∙ e)
@@ -96,8 +96,8 @@ module _ (faults : List Fault) (undefined copies : List (List ℕ)) (name : List
   copied_any : list_any (is_empty_copy_of name) faults ≡ list_any (bytes_eq name) copies
   copied_any = any_named (is_empty_copy_of name) empty_copy_name name (copied_alike name) faults ∙ ap (list_any (bytes_eq name)) (sym h.copied_names)
 
-  pub copy_told : list_any (bytes_eq name) copies ≡ true → with_fault faults (fault.CopyOfZero name site) ≡ faults
-  copy_told e = ap (λ b. cond b faults (faults ++ fault.CopyOfZero name site ∷ [])) (copied_any ∙ e)
+  pub copy_reported : list_any (bytes_eq name) copies ≡ true → with_fault faults (fault.CopyOfZero name site) ≡ faults
+  copy_reported e = ap (λ b. cond b faults (faults ++ fault.CopyOfZero name site ∷ [])) (copied_any ∙ e)
 
   pub copy_anew : list_any (bytes_eq name) copies ≡ false → with_fault faults (fault.CopyOfZero name site) ≡ faults ++ fault.CopyOfZero name site ∷ []
   copy_anew e = ap (λ b. cond b faults (faults ++ fault.CopyOfZero name site ∷ [])) (copied_any ∙ e)

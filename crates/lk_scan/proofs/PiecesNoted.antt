@@ -11,11 +11,11 @@ use Rattle.lk_model.specs.Finding.{Found, is_kept_in}
 use Rattle.lk_model.specs.KeptPieces.{is_loaded}
 use Rattle.lk_model.specs.NeedsOf.{address_needs, copy_needs, got_key_eq, got_needs, loaded_references, needs_of, plt_needs}
 use Rattle.lk_model.specs.Numbered.{with_new}
-use Rattle.lk_model.specs.Objects.{code_of_rela, pieces_in, relocations_in, summary_in, symbol_of_rela}
+use Rattle.lk_model.specs.Objects.{r_type_of, pieces_in, relocations_in, summary_in, r_symbol_of}
 use Rattle.lk_model.specs.References.{Sited, recorded_of, reference_of, references_of, sited_in, through_of}
-use Rattle.lk_model.specs.ScanFaults.{faults_at, faults_in, told_once, with_fault}
+use Rattle.lk_model.specs.ScanFaults.{faults_at, faults_in, reported_once, with_fault}
 use Rattle.lk_model.specs.Views.{Elf, Ref, Through}
-use Rattle.lk_resolve.specs.Settling.{IsFound, Settled, is_place_kept}
+use Rattle.lk_resolve.specs.Settling.{IsFound, ResolutionValue, is_place_kept}
 use Rattle.lk_symtab.specs.NameRows.{all_symbols}
 use Rattle.lk_scan.specs.declared.noting.Scan.{Scan}
 use Rattle.lk_scan.specs.declared.scans.Scanned.{Scanned}
@@ -29,13 +29,13 @@ use Rattle.lk_scan.specs.Targets.{referral_of, setting_of}
 use Rattle.lk_scan.specs.LinkScans.{joined, scan_of}
 use Rattle.lk_scan.proofs.Joined.{faults-again}
 use Rattle.lk_scan.proofs.NeedsJoined.{needs-again, needs_after}
-use Rattle.lk_scan.proofs.ReferencesNoted.{faults_noted, needs_noted, recorded_noted, settled_in}
+use Rattle.lk_scan.proofs.ReferencesNoted.{faults_noted, needs_noted, recorded_noted, resolution_in}
 
--- what is held after references of the model
+-- what is kept after references of the model
 abbrev after : Found → Elf → Scan → List Sited → Scan
 after f elf s sited = record {
   needs = needs_after f s.needs (loaded_references sited);
-  told = fold with_fault s.told (faults_in f elf sited);
+  reported = fold with_fault s.reported (faults_in f elf sited);
   references = s.references ++ recorded_of (references_of sited);
 }
 
@@ -58,78 +58,78 @@ needs_next f true n m x rest h =
     })
 needs_next f false n m x rest h = refl
 
-module _ (settled : Settled) (found : Found) (elf : Elf) (summary : InputSummary) (input : ℕ) (kept : (i s : ℕ) → is_place_kept settled.kept i s ≡ is_kept_in found i s) where
+module _ (resolution : ResolutionValue) (found : Found) (elf : Elf) (summary : InputSummary) (input : ℕ) (kept : (i s : ℕ) → is_place_kept resolution.kept i s ≡ is_kept_in found i s) where
   abbrev here : Found
-  here = settled_in settled found
+  here = resolution_in resolution found
 
   abbrev sited : PieceInfo → Rela → Sited
-  sited p rela = (p.key, reference_of (all_symbols settled.rows) summary input p.section rela)
+  sited p rela = (p.key, reference_of (all_symbols resolution.rows) summary input p.section rela)
 
   -- one more reference
-  next : (p : PieceInfo) (s : Scan) (rela : Rela) (rest : List Sited) → after here elf (with_referral settled.rows (get_or settled.paths input []) (setting_of p.key) s (referral_of settled elf summary input p.section rela)) rest ≡ after here elf s (sited p rela ∷ rest)
+  next : (p : PieceInfo) (s : Scan) (rela : Rela) (rest : List Sited) → after here elf (with_referral resolution.rows (get_or resolution.paths input []) (setting_of p.key) s (referral_of resolution elf summary input p.section rela)) rest ≡ after here elf s (sited p rela ∷ rest)
   next p s rela rest = λ i. record {
-    needs = needs_next here (is_loaded p.key.class) s.needs (needs_with s.needs (referral_of settled elf summary input p.section rela)) (reference_of (all_symbols settled.rows) summary input p.section rela) (loaded_references rest)
-        (needs_noted settled found elf input kept p.section rela.r_offset (code_of_rela rela) rela.r_addend s.needs T) i;
-    told = told i;
+    needs = needs_next here (is_loaded p.key.class) s.needs (needs_with s.needs (referral_of resolution elf summary input p.section rela)) (reference_of (all_symbols resolution.rows) summary input p.section rela) (loaded_references rest)
+        (needs_noted resolution found elf input kept p.section rela.r_offset (r_type_of rela) rela.r_addend s.needs T) i;
+    reported = reported i;
     references = references i;
   }
     where
       T : Through
-      T = through_of (all_symbols settled.rows) summary (symbol_of_rela rela)
+      T = through_of (all_symbols resolution.rows) summary (r_symbol_of rela)
 
-      told : fold with_fault (fold with_fault s.told (faults_on settled.rows (get_or settled.paths input []) (setting_of p.key) (referral_of settled elf summary input p.section rela))) (faults_in here elf rest) ≡ fold with_fault s.told (faults_at here elf (sited p rela) ++ faults_in here elf rest)
-      told =
-          ap (λ (l : List Fault). fold with_fault (fold with_fault s.told l) (faults_in here elf rest)) (faults_noted settled found elf input kept p.section rela.r_offset (code_of_rela rela) rela.r_addend p.key T)
-          ∙ sym (fold-append with_fault s.told (faults_at here elf (sited p rela)) (faults_in here elf rest))
+      reported : fold with_fault (fold with_fault s.reported (faults_on resolution.rows (get_or resolution.paths input []) (setting_of p.key) (referral_of resolution elf summary input p.section rela))) (faults_in here elf rest) ≡ fold with_fault s.reported (faults_at here elf (sited p rela) ++ faults_in here elf rest)
+      reported =
+          ap (λ (l : List Fault). fold with_fault (fold with_fault s.reported l) (faults_in here elf rest)) (faults_noted resolution found elf input kept p.section rela.r_offset (r_type_of rela) rela.r_addend p.key T)
+          ∙ sym (fold-append with_fault s.reported (faults_at here elf (sited p rela)) (faults_in here elf rest))
 
-      references : (s.references ++ recorded_on (referral_of settled elf summary input p.section rela)) ++ recorded_of (references_of rest) ≡ s.references ++ recorded_of (references_of (sited p rela ∷ rest))
+      references : (s.references ++ recorded_on (referral_of resolution elf summary input p.section rela)) ++ recorded_of (references_of rest) ≡ s.references ++ recorded_of (references_of (sited p rela ∷ rest))
       references =
-          append_assoc s.references (recorded_on (referral_of settled elf summary input p.section rela)) (recorded_of (references_of rest))
-          ∙ ap (λ l. s.references ++ l) (recorded_noted settled found elf input kept p.section rela.r_offset (code_of_rela rela) rela.r_addend T (recorded_of (references_of rest)))
+          append_assoc s.references (recorded_on (referral_of resolution elf summary input p.section rela)) (recorded_of (references_of rest))
+          ∙ ap (λ l. s.references ++ l) (recorded_noted resolution found elf input kept p.section rela.r_offset (r_type_of rela) rela.r_addend T (recorded_of (references_of rest)))
 
   -- those of a piece, and of pieces
-  relas : (p : PieceInfo) (s : Scan) (rs : List Rela) (rest : List Sited) → after here elf (with_relas settled elf summary input p s rs) rest ≡ after here elf s (map (sited p) rs ++ rest)
+  relas : (p : PieceInfo) (s : Scan) (rs : List Rela) (rest : List Sited) → after here elf (with_relas resolution elf summary input p s rs) rest ≡ after here elf s (map (sited p) rs ++ rest)
   relas p s [] rest = refl
   relas p s (r ∷ rs) rest =
-      relas p (with_referral settled.rows (get_or settled.paths input []) (setting_of p.key) s (referral_of settled elf summary input p.section r)) rs rest
+      relas p (with_referral resolution.rows (get_or resolution.paths input []) (setting_of p.key) s (referral_of resolution elf summary input p.section r)) rs rest
       ∙ next p s r (map (sited p) rs ++ rest)
 
-  pieces : (s : Scan) (ps : List PieceInfo) → after here elf (with_pieces settled elf summary input s ps) [] ≡ after here elf s (references_in here elf summary input ps)
+  pieces : (s : Scan) (ps : List PieceInfo) → after here elf (with_pieces resolution elf summary input s ps) [] ≡ after here elf s (references_in here elf summary input ps)
   pieces s [] = refl
   pieces s (p ∷ ps) =
-      pieces (with_piece settled elf summary input s p) ps
-      ∙ by (is_place_kept settled.kept input p.section)
+      pieces (with_piece resolution elf summary input s p) ps
+      ∙ by (is_place_kept resolution.kept input p.section)
       ∙ ap (λ b. after here elf s (flat_map of (cond b (p ∷ others) others))) (kept input p.section)
     where
       of : PieceInfo → List Sited
-      of q = sited_in (all_symbols settled.rows) elf summary q.key input q.section
+      of q = sited_in (all_symbols resolution.rows) elf summary q.key input q.section
 
       others : List PieceInfo
       others = filter (λ (q : PieceInfo). is_kept_in found input q.section) ps
 
-      by : (b : Bool) → after here elf (cond b (with_relas settled elf summary input p s (relocations_in elf p.section)) s) (references_in here elf summary input ps) ≡ after here elf s (flat_map of (cond b (p ∷ others) others))
+      by : (b : Bool) → after here elf (cond b (with_relas resolution elf summary input p s (relocations_in elf p.section)) s) (references_in here elf summary input ps) ≡ after here elf s (flat_map of (cond b (p ∷ others) others))
       by true = relas p s (relocations_in elf p.section) (references_in here elf summary input ps)
       by false = refl
 
-  all_noted : (s : Scan) (ps : List PieceInfo) → with_pieces settled elf summary input s ps ≡ after here elf s (references_in here elf summary input ps)
-  all_noted s ps = ended (with_pieces settled elf summary input s ps) ∙ pieces s ps
+  all_noted : (s : Scan) (ps : List PieceInfo) → with_pieces resolution elf summary input s ps ≡ after here elf s (references_in here elf summary input ps)
+  all_noted s ps = ended (with_pieces resolution elf summary input s ps) ∙ pieces s ps
     where
       ended : (t : Scan) → t ≡ after here elf t []
-      ended t = λ i. record { needs = t.needs; told = t.told; references = sym (append-nil t.references) i }
+      ended t = λ i. record { needs = t.needs; reported = t.reported; references = sym (append-nil t.references) i }
 
 -- what is noted of all kept pieces is what the model says of the references
-abbrev pub IsNoted : Settled → Elf → ℕ → Found → Type 0
-IsNoted settled elf input f =
+abbrev pub IsNoted : ResolutionValue → Elf → ℕ → Found → Type 0
+IsNoted resolution elf input f =
     let refs = object_references f elf input in
-    let whole : Scan = record { needs = needs_of f refs; told = told_once (faults_in f elf refs); references = recorded_of (references_of refs) } in
-    with_pieces settled elf (summary_in elf) input nothing_noted (summary_in elf).pieces ≡ whole
+    let whole : Scan = record { needs = needs_of f refs; reported = reported_once (faults_in f elf refs); references = recorded_of (references_of refs) } in
+    with_pieces resolution elf (summary_in elf) input nothing_noted (summary_in elf).pieces ≡ whole
 
-noted_here : (settled : Settled) (found : Found) (elf : Elf) (input : ℕ) → ((i s : ℕ) → is_place_kept settled.kept i s ≡ is_kept_in found i s) → IsNoted settled elf input (settled_in settled found)
+noted_here : (resolution : ResolutionValue) (found : Found) (elf : Elf) (input : ℕ) → ((i s : ℕ) → is_place_kept resolution.kept i s ≡ is_kept_in found i s) → IsNoted resolution elf input (resolution_in resolution found)
 unfolding needs_of summary_in
-noted_here settled found elf input kept = all_noted settled found elf (summary_in elf) input kept nothing_noted (pieces_in elf)
+noted_here resolution found elf input kept = all_noted resolution found elf (summary_in elf) input kept nothing_noted (pieces_in elf)
 
-is_settled : (settled : Settled) (found : Found) → IsFound settled found → settled_in settled found ≡ found
-is_settled settled found h = λ i. record {
+is_resolution : (resolution : ResolutionValue) (found : Found) → IsFound resolution found → resolution_in resolution found ≡ found
+is_resolution resolution found h = λ i. record {
   paths = h.paths i;
   entry = found.entry;
   added = found.added;
@@ -140,49 +140,49 @@ is_settled settled found h = λ i. record {
   sections = found.sections;
 }
 
-noted : (settled : Settled) (found : Found) (elf : Elf) (input : ℕ) → IsFound settled found → IsNoted settled elf input found
-noted settled found elf input h = subst (IsNoted settled elf input) (is_settled settled found h) (noted_here settled found elf input h.kept)
+noted : (resolution : ResolutionValue) (found : Found) (elf : Elf) (input : ℕ) → IsFound resolution found → IsNoted resolution elf input found
+noted resolution found elf input h = subst (IsNoted resolution elf input) (is_resolution resolution found h) (noted_here resolution found elf input h.kept)
 
-pub scan_answers : (settled : Settled) (found : Found) (elf : Elf) (input : ℕ) (scan : Scan) (result : Result Scanned ScanFailure) → IsFound settled found → scan ≡ with_pieces settled elf (summary_in elf) input nothing_noted (summary_in elf).pieces → Answers scan result → ScanGives found elf (object_references found elf input) result
-scan_answers settled found elf input scan result h e answers = by result answers
+pub scan_answers : (resolution : ResolutionValue) (found : Found) (elf : Elf) (input : ℕ) (scan : Scan) (result : Result Scanned ScanFailure) → IsFound resolution found → scan ≡ with_pieces resolution elf (summary_in elf) input nothing_noted (summary_in elf).pieces → Answers scan result → ScanGives found elf (object_references found elf input) result
+scan_answers resolution found elf input scan result h e answers = by result answers
   where
     refs : List Sited
     refs = object_references found elf input
 
-    told : scan.told ≡ told_once (faults_in found elf refs)
-    told = ap (λ (s : Scan). s.told) (e ∙ noted settled found elf input h)
+    reported : scan.reported ≡ reported_once (faults_in found elf refs)
+    reported = ap (λ (s : Scan). s.reported) (e ∙ noted resolution found elf input h)
 
     needs : scan.needs ≡ needs_of found refs
-    needs = ap (λ (s : Scan). s.needs) (e ∙ noted settled found elf input h)
+    needs = ap (λ (s : Scan). s.needs) (e ∙ noted resolution found elf input h)
 
     references : scan.references ≡ recorded_of (references_of refs)
-    references = ap (λ (s : Scan). s.references) (e ∙ noted settled found elf input h)
+    references = ap (λ (s : Scan). s.references) (e ∙ noted resolution found elf input h)
 
     by : (r : Result Scanned ScanFailure) → Answers scan r → ScanGives found elf refs r
-    by (Ok s) a = (sym told ∙ a.0, a.1 ∙ needs, a.2 ∙ references)
-    by (Err (failure.Faults faults)) a = (a.0 ∙ told, a.1)
+    by (Ok s) a = (sym reported ∙ a.0, a.1 ∙ needs, a.2 ∙ references)
+    by (Err (failure.Faults faults)) a = (a.0 ∙ reported, a.1)
     by (Err failure.NoMemory) a = a
 
 -- an object that is looked at after others goes on by what it has
-abbrev pub JoinsObject : Settled → Elf → ℕ → Scan → Found → Type 0
-JoinsObject settled elf input before f =
-    with_pieces settled elf (summary_in elf) input before (summary_in elf).pieces ≡ joined before (scan_of f elf (object_references f elf input))
+abbrev pub JoinsObject : ResolutionValue → Elf → ℕ → Scan → Found → Type 0
+JoinsObject resolution elf input before f =
+    with_pieces resolution elf (summary_in elf) input before (summary_in elf).pieces ≡ joined before (scan_of f elf (object_references f elf input))
 
 after_again : (f : Found) (elf : Elf) (before : Scan) (sited : List Sited) → after f elf before sited ≡ joined before (scan_of f elf sited)
 after_again f elf before sited = λ i. record {
   needs = sym (needs-again f before.needs sited) i;
-  told = sym (faults-again before.told (faults_in f elf sited)) i;
+  reported = sym (faults-again before.reported (faults_in f elf sited)) i;
   references = before.references ++ recorded_of (references_of sited);
 }
 
-joins_here : (settled : Settled) (found : Found) (elf : Elf) (input : ℕ) (before : Scan) → ((i s : ℕ) → is_place_kept settled.kept i s ≡ is_kept_in found i s) → JoinsObject settled elf input before (settled_in settled found)
+joins_here : (resolution : ResolutionValue) (found : Found) (elf : Elf) (input : ℕ) (before : Scan) → ((i s : ℕ) → is_place_kept resolution.kept i s ≡ is_kept_in found i s) → JoinsObject resolution elf input before (resolution_in resolution found)
 unfolding summary_in
-joins_here settled found elf input before kept =
-    all_noted settled found elf (summary_in elf) input kept before (pieces_in elf) ∙ after_again (settled_in settled found) elf before (object_references (settled_in settled found) elf input)
+joins_here resolution found elf input before kept =
+    all_noted resolution found elf (summary_in elf) input kept before (pieces_in elf) ∙ after_again (resolution_in resolution found) elf before (object_references (resolution_in resolution found) elf input)
 
-pub object_joins : (settled : Settled) (found : Found) (elf : Elf) (input : ℕ) (before now : Scan) → IsFound settled found → now ≡ with_pieces settled elf (summary_in elf) input before (summary_in elf).pieces → now ≡ joined before (scan_of found elf (object_references found elf input))
-object_joins settled found elf input before now h e =
-    e ∙ subst (JoinsObject settled elf input before) (is_settled settled found h) (joins_here settled found elf input before h.kept)
+pub object_joins : (resolution : ResolutionValue) (found : Found) (elf : Elf) (input : ℕ) (before now : Scan) → IsFound resolution found → now ≡ with_pieces resolution elf (summary_in elf) input before (summary_in elf).pieces → now ≡ joined before (scan_of found elf (object_references found elf input))
+object_joins resolution found elf input before now h e =
+    e ∙ subst (JoinsObject resolution elf input before) (is_resolution resolution found h) (joins_here resolution found elf input before h.kept)
 
 pub some_scan : (a b : Scan) → Some a ≡ Some b → a ≡ b
 some_scan a b e = cc

@@ -22,7 +22,7 @@ use Rattle.lk_model.specs.References.{recorded}
 use Rattle.lk_model.specs.ScanFaults.{faults_at, is_unsupported, needs_local_sections, of_local_section, of_name}
 use Rattle.lk_model.specs.Views.{Elf, Ref, Through}
 use Rattle.lk_model.specs.Winners.{import_symbol, is_nothing, is_tls_winner}
-use Rattle.lk_resolve.specs.Settling.{Settled, is_place_kept}
+use Rattle.lk_resolve.specs.Settling.{ResolutionValue, is_place_kept}
 use Rattle.lk_symtab.specs.NameRows.{NameRow, all_symbols, row_winner, symbols_in}
 use Rattle.lk_scan.specs.declared.targets.Import.{Import}
 use Rattle.lk_scan.specs.declared.targets.Referral.{Referral}
@@ -54,26 +54,26 @@ nested false b xs = refl
 abbrev paired : ℕ → Option Global → Option (ℕ × Global)
 paired n m = option_map (λ (g : Global). (n, g)) m
 
--- what is settled, as part of what the added inputs decide
-abbrev pub settled_in : Settled → Found → Found
-settled_in settled found = record found { paths = settled.paths; names = all_symbols settled.rows; winners = map row_winner settled.rows }
+-- what is resolved, as part of what the added inputs decide
+abbrev pub resolution_in : ResolutionValue → Found → Found
+resolution_in resolution found = record found { paths = resolution.paths; names = all_symbols resolution.rows; winners = map row_winner resolution.rows }
 
-module _ (settled : Settled) (found : Found) (elf : Elf) (input : ℕ) (kept : (i s : ℕ) → is_place_kept settled.kept i s ≡ is_kept_in found i s) where
+module _ (resolution : ResolutionValue) (found : Found) (elf : Elf) (input : ℕ) (kept : (i s : ℕ) → is_place_kept resolution.kept i s ≡ is_kept_in found i s) where
   abbrev rows : List NameRow
-  rows = settled.rows
+  rows = resolution.rows
 
   abbrev path : List ℕ
-  path = get_or settled.paths input []
+  path = get_or resolution.paths input []
 
   abbrev here : Found
-  here = settled_in settled found
+  here = resolution_in resolution found
 
   -- the symbols and the winner of a number
-  symbols_is : (n : ℕ) → option_map symbols_in (slice_get settled.rows n) ≡ slice_get (map symbols_in settled.rows) n
-  symbols_is n = sym (slice_get-map symbols_in settled.rows n)
+  symbols_is : (n : ℕ) → option_map symbols_in (slice_get resolution.rows n) ≡ slice_get (map symbols_in resolution.rows) n
+  symbols_is n = sym (slice_get-map symbols_in resolution.rows n)
 
-  winner_is : (n : ℕ) → option_map row_winner (slice_get settled.rows n) ≡ slice_get (map row_winner settled.rows) n
-  winner_is n = sym (slice_get-map row_winner settled.rows n)
+  winner_is : (n : ℕ) → option_map row_winner (slice_get resolution.rows n) ≡ slice_get (map row_winner resolution.rows) n
+  winner_is n = sym (slice_get-map row_winner resolution.rows n)
 
   -- the import of a number
   abbrev import_by : Option Contributions → Option Winner → Option Global
@@ -83,8 +83,8 @@ module _ (settled : Settled) (found : Found) (elf : Elf) (input : ℕ) (kept : (
   import_row None = refl
   import_row (Some row) = refl
 
-  import_is : (n : ℕ) → import_in settled.rows n ≡ import_named here n
-  import_is n = import_row (slice_get settled.rows n) ∙ (λ i. import_by (symbols_is n i) (winner_is n i))
+  import_is : (n : ℕ) → import_in resolution.rows n ≡ import_named here n
+  import_is n = import_row (slice_get resolution.rows n) ∙ (λ i. import_by (symbols_is n i) (winner_is n i))
 
   -- what a number means
   abbrev passes_by : Option Contributions → Option Winner → (Contributions → Winner → Bool) → Bool
@@ -106,10 +106,10 @@ module _ (settled : Settled) (found : Found) (elf : Elf) (input : ℕ) (kept : (
   target_row n weak (Some row) = refl
 
   abbrev target_here : ℕ → Bool → Target
-  target_here n weak = target_by n weak (slice_get (map symbols_in settled.rows) n) (slice_get (map row_winner settled.rows) n)
+  target_here n weak = target_by n weak (slice_get (map symbols_in resolution.rows) n) (slice_get (map row_winner resolution.rows) n)
 
-  target_is : (n : ℕ) (weak : Bool) → name_target settled.rows n weak ≡ target_here n weak
-  target_is n weak = target_row n weak (slice_get settled.rows n) ∙ (λ i. target_by n weak (symbols_is n i) (winner_is n i))
+  target_is : (n : ℕ) (weak : Bool) → name_target resolution.rows n weak ≡ target_here n weak
+  target_is n weak = target_row n weak (slice_get resolution.rows n) ∙ (λ i. target_by n weak (symbols_is n i) (winner_is n i))
 
   -- the fault that names a name
   abbrev named_by : Site → Option Contributions → List Fault
@@ -119,8 +119,8 @@ module _ (settled : Settled) (found : Found) (elf : Elf) (input : ℕ) (kept : (
   named_row site None = refl
   named_row site (Some row) = refl
 
-  named_is : (n : ℕ) (weak : Bool) (site : Site) → undefined_name_at settled.rows (way.Name n weak) site ≡ named_by site (slice_get (map symbols_in settled.rows) n)
-  named_is n weak site = named_row site (slice_get settled.rows n) ∙ ap (named_by site) (symbols_is n)
+  named_is : (n : ℕ) (weak : Bool) (site : Site) → undefined_name_at resolution.rows (way.Name n weak) site ≡ named_by site (slice_get (map symbols_in resolution.rows) n)
+  named_is n weak site = named_row site (slice_get resolution.rows n) ∙ ap (named_by site) (symbols_is n)
 
   -- a relocation, by what it goes to and by what it goes through
   module _ (section offset code : ℕ) (addend : ℤ) where
@@ -131,11 +131,11 @@ module _ (settled : Settled) (found : Found) (elf : Elf) (input : ℕ) (kept : (
     ref T = record { input = input; section = section; offset = offset; code = code; addend = addend; through = T }
 
     abbrev site : Site
-    site = record { path = get_or settled.paths input []; section = section; offset = offset }
+    site = record { path = get_or resolution.paths input []; section = section; offset = offset }
 
     -- the faults of a reference to an import
-    imported : (n : ℕ) (weak : Bool) (t : Target) (m : Option Global) → import_in settled.rows n ≡ m
-        → elim (option_map (import_seen n) m) [ None ↦ [] | Some import ↦ of_import settled.rows (get_or settled.paths input []) (referral t) import ]
+    imported : (n : ℕ) (weak : Bool) (t : Target) (m : Option Global) → import_in resolution.rows n ≡ m
+        → elim (option_map (import_seen n) m) [ None ↦ [] | Some import ↦ of_import resolution.rows (get_or resolution.paths input []) (referral t) import ]
         ≡ ◌++◌ {A = Fault}
         (elim (paired n m) [ None ↦ [] | Some import ↦ cond (is_address_form code && (is_variable import.1 && (import.1.size == 0))) (fault.CopyOfZero import.1.name site ∷ []) [] ])
         (elim (paired n m) [ None ↦ [] | Some import ↦ cond (is_thread_offset code) (fault.ImportedTlsDirect import.1.name site ∷ []) [] ])
@@ -144,13 +144,13 @@ module _ (settled : Settled) (found : Found) (elf : Elf) (input : ℕ) (kept : (
         λ i. cond (is_empty_copy code (import_seen n g)) (elim (e i) [ None ↦ [] | Some h ↦ fault.CopyOfZero h.name site ∷ [] ]) []
         ++ cond (is_thread_offset code) (elim (e i) [ None ↦ [] | Some h ↦ fault.ImportedTlsDirect h.name site ∷ [] ]) []
 
-    pub faults_noted : (key : SectionKey) (T : Through) → faults_on settled.rows (get_or settled.paths input []) (setting_of key) (referral (target_at settled elf input T)) ≡ faults_at here elf (key, ref T)
+    pub faults_noted : (key : SectionKey) (T : Through) → faults_on resolution.rows (get_or resolution.paths input []) (setting_of key) (referral (target_at resolution elf input T)) ≡ faults_at here elf (key, ref T)
     faults_noted key (Through.ByLocal s) =
         λ i. cond (needs_local_sections key && of_local_section (local_in elf s) (λ k. not (kept input k i))) (fault.DroppedLocal site ∷ []) []
         ++ cond (is_unsupported here elf (is_loaded key.class) (ref (Through.ByLocal s))) (fault.Unsupported code site ∷ []) []
         ++ cond (is_loaded key.class) [] []
     faults_noted key (Through.ByName n weak) =
-        (λ i. faults_on settled.rows (get_or settled.paths input []) (setting_of key) (referral (target_is n weak i)))
+        (λ i. faults_on resolution.rows (get_or resolution.paths input []) (setting_of key) (referral (target_is n weak i)))
         ∙ (λ i. undefined i
         ++ cond (needs_local_sections key && false) (fault.DroppedLocal site ∷ []) []
         ++ cond (is_unsupported here elf (is_loaded key.class) (ref (Through.ByName n weak))) (fault.Unsupported code site ∷ []) []
@@ -159,7 +159,7 @@ module _ (settled : Settled) (found : Found) (elf : Elf) (input : ℕ) (kept : (
         is_undefined : Bool
         is_undefined = not weak && of_name here n (λ others w. is_nothing w)
 
-        undefined : cond is_undefined (undefined_name_at settled.rows (way.Name n weak) site) [] ≡ elim (contributions_in here n) [ None ↦ [] | Some cs ↦ cond is_undefined (fault.Undefined cs.name site ∷ []) [] ]
+        undefined : cond is_undefined (undefined_name_at resolution.rows (way.Name n weak) site) [] ≡ elim (contributions_in here n) [ None ↦ [] | Some cs ↦ cond is_undefined (fault.Undefined cs.name site ∷ []) [] ]
         undefined = ap (λ l. cond is_undefined l []) (named_is n weak site) ∙ swapped is_undefined (contributions_in here n) (λ (cs : Contributions). fault.Undefined cs.name site ∷ [])
 
     -- what it needs
@@ -200,14 +200,14 @@ module _ (settled : Settled) (found : Found) (elf : Elf) (input : ℕ) (kept : (
     seen_twice n None = refl
     seen_twice n (Some g) = refl
 
-    pub needs_noted : (n : Needs) (T : Through) → needs_with n (referral (target_at settled elf input T)) ≡ needs_for n (ref T)
-    needs_noted n (Through.ByLocal s) = needs_import (needs_with_slots n (referral (target_at settled elf input (Through.ByLocal s)))) None
+    pub needs_noted : (n : Needs) (T : Through) → needs_with n (referral (target_at resolution elf input T)) ≡ needs_for n (ref T)
+    needs_noted n (Through.ByLocal s) = needs_import (needs_with_slots n (referral (target_at resolution elf input (Through.ByLocal s)))) None
     needs_noted n (Through.ByName k weak) =
         (λ i. needs_with n (referral (target_is k weak i)))
         ∙ ap (λ (o : Option Import). needs_of_some (needs_with_slots n (referral (target_here k weak))) code o) (seen_twice k (import_named here k))
         ∙ needs_import (needs_with_slots n (referral (target_here k weak))) (option_map (λ (g : Global). (k, g)) (import_named here k))
 
     -- what is recorded of it
-    pub recorded_noted : (T : Through) (rest : List Reference) → recorded_on (referral (target_at settled elf input T)) ++ rest ≡ cons_option (recorded (ref T)) rest
+    pub recorded_noted : (T : Through) (rest : List Reference) → recorded_on (referral (target_at resolution elf input T)) ++ rest ≡ cons_option (recorded (ref T)) rest
     recorded_noted (Through.ByLocal s) rest = refl
     recorded_noted (Through.ByName n weak) rest = λ i. recorded_on (referral (target_is n weak i)) ++ rest

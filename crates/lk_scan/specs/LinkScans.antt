@@ -8,7 +8,7 @@ use Rattle.lk_model.specs.Numbered.{with_new}
 use Rattle.lk_model.specs.Objects.{summary_in}
 use Rattle.lk_model.specs.References.{Sited, recorded_of, references_of, sited_of}
 use Rattle.lk_model.specs.Resolving.{found_in, resolve}
-use Rattle.lk_model.specs.ScanFaults.{faults_in, scan_faults, told_once, with_fault}
+use Rattle.lk_model.specs.ScanFaults.{faults_in, scan_faults, reported_once, with_fault}
 use Rattle.lk_model.specs.SharedObjects.{shared_summary_in}
 use Rattle.lk_model.specs.Views.{Elf, Input}
 use Rattle.lk_scan.specs.declared.noting.Scan.{Scan}
@@ -19,7 +19,7 @@ use Rattle.lk_scan.specs.Scans.{object_references, references_in}
 abbrev pub scan_of : Found → Elf → List Sited → Scan
 scan_of found elf sited = record {
   needs = needs_of found sited;
-  told = told_once (faults_in found elf sited);
+  reported = reported_once (faults_in found elf sited);
   references = recorded_of (references_of sited);
 }
 
@@ -39,12 +39,12 @@ needs_joined n later = record {
   copies = fold (with_new nat_eq) n.copies later.copies;
 }
 
--- a scan with that of later references: what both need stands once, and so does a fault that is told once
+-- a scan with that of later references: what both need is once, and so does a fault that is reported once
 -- per name
 abbrev pub joined : Scan → Scan → Scan
 joined scan later = record {
   needs = needs_joined scan.needs later.needs;
-  told = fold with_fault scan.told later.told;
+  reported = fold with_fault scan.reported later.reported;
   references = scan.references ++ later.references;
 }
 
@@ -63,7 +63,7 @@ ReferencesByInput = (options : OptionRecord) (inputs : List Input) →
 abbrev pub ScansAreTheLinks : Type 0
 ScansAreTheLinks = (options : OptionRecord) (inputs : List Input) →
     let r = resolve options inputs in
-    let whole : Scan = record { needs = r.needs; told = scan_faults r; references = recorded_of r.references } in
+    let whole : Scan = record { needs = r.needs; reported = scan_faults r; references = recorded_of r.references } in
     all_joined (map (input_scan (found_in r) inputs) r.added) ≡ whole
 
 -- the scan of an input that is an object is that of its own references; of one that is shared there is

@@ -68,7 +68,7 @@ import_faults_on rows path setting r = cond setting.is_loaded (elim r.target.imp
 abbrev pub faults_on : List NameRow → List ℕ → Setting → Referral → List Fault
 faults_on rows path setting r = undefined_on rows path r ++ dropped_on path setting r ++ unsupported_on path setting r ++ import_faults_on rows path setting r
 
--- the name that a fault tells of as undefined, and as that of an empty copy
+-- the name that a fault reports of as undefined, and as that of an empty copy
 abbrev pub undefined_name : Fault → Option (List ℕ)
 undefined_name (fault.Undefined name site) = Some name
 undefined_name _ = None

@@ -7,7 +7,7 @@ use Rattle.lk_model.specs.declared.summaries.Global.{Global}
 use Rattle.lk_model.specs.declared.summaries.InputSummary.{InputSummary}
 use Rattle.lk_model.specs.References.{number_of_name}
 use Rattle.lk_model.specs.Views.{Elf}
-use Rattle.lk_resolve.specs.Settling.{Settled}
+use Rattle.lk_resolve.specs.Settling.{ResolutionValue}
 use Rattle.lk_symtab.specs.NameRows.{NameRow, all_symbols}
 use Rattle.lk_scan.specs.declared.targets.Target.{Target}
 use Rattle.lk_scan.specs.Targets.{local_target, name_target}
@@ -29,5 +29,5 @@ with_globals rows [] targets = targets
 with_globals rows (g ∷ gs) targets = set (with_globals rows gs targets) g.symbol (global_target rows g)
 
 -- the list of an object's symbols, up to the last that is not LOCAL
-abbrev pub targets_of : Settled → Elf → InputSummary → ℕ → List Target
-targets_of settled elf summary input = with_globals settled.rows summary.globals (map (local_target settled elf input) (range_with_len 0 (count_for summary.globals)))
+abbrev pub targets_of : ResolutionValue → Elf → InputSummary → ℕ → List Target
+targets_of resolution elf summary input = with_globals resolution.rows summary.globals (map (local_target resolution elf input) (range_with_len 0 (count_for summary.globals)))

@@ -8,12 +8,12 @@ use Rattle.lk_model.specs.declared.summaries.Global.{Global}
 use Rattle.lk_model.specs.declared.summaries.InputSummary.{InputSummary}
 use Rattle.lk_model.specs.declared.summaries.Winner.{Winner}
 use Rattle.lk_model.specs.KeptPieces.{is_loaded}
-use Rattle.lk_model.specs.Objects.{code_of_rela, local_in, symbol_of_rela}
+use Rattle.lk_model.specs.Objects.{r_type_of, local_in, r_symbol_of}
 use Rattle.lk_model.specs.References.{through_of}
 use Rattle.lk_model.specs.ScanFaults.{is_tls_local, is_tls_section, needs_local_sections, of_local_section}
 use Rattle.lk_model.specs.Views.{Elf, Through}
 use Rattle.lk_model.specs.Winners.{import_symbol, is_nothing, is_tls_winner}
-use Rattle.lk_resolve.specs.Settling.{Settled, is_place_kept}
+use Rattle.lk_resolve.specs.Settling.{ResolutionValue, is_place_kept}
 use Rattle.lk_symtab.specs.NameRows.{NameRow, all_symbols, row_winner}
 use Rattle.lk_scan.specs.declared.targets.Import.{Import}
 use Rattle.lk_scan.specs.declared.targets.Referral.{Referral}
@@ -59,34 +59,34 @@ abbrev pub to_weak : ℕ → Bool → Target → Target
 to_weak number weak t = record t { way = way.Name number weak; is_undefined = not weak && t.is_undefined }
 
 -- what a LOCAL symbol of this file means
-abbrev pub local_target : Settled → Elf → ℕ → ℕ → Target
-local_target settled elf input symbol = record {
+abbrev pub local_target : ResolutionValue → Elf → ℕ → ℕ → Target
+local_target resolution elf input symbol = record {
   way = way.Local symbol;
   is_undefined = false;
-  is_dropped = of_local_section (local_in elf symbol) (λ s. not (is_place_kept settled.kept input s));
+  is_dropped = of_local_section (local_in elf symbol) (λ s. not (is_place_kept resolution.kept input s));
   is_tls = is_tls_local (local_in elf symbol);
   is_no_tls = not (is_tls_local (local_in elf symbol) || of_local_section (local_in elf symbol) (is_tls_section elf));
   import = None;
 }
 
 -- what a reference goes to
-abbrev pub target_at : Settled → Elf → ℕ → Through → Target
-target_at settled elf input (Through.ByName number weak) = name_target settled.rows number weak
-target_at settled elf input (Through.ByLocal symbol) = local_target settled elf input symbol
+abbrev pub target_at : ResolutionValue → Elf → ℕ → Through → Target
+target_at resolution elf input (Through.ByName number weak) = name_target resolution.rows number weak
+target_at resolution elf input (Through.ByLocal symbol) = local_target resolution elf input symbol
 
 -- what a symbol of an object is to its relocations
-abbrev pub symbol_target : Settled → Elf → InputSummary → ℕ → ℕ → Target
-symbol_target settled elf summary input symbol = target_at settled elf input (through_of (all_symbols settled.rows) summary symbol)
+abbrev pub symbol_target : ResolutionValue → Elf → InputSummary → ℕ → ℕ → Target
+symbol_target resolution elf summary input symbol = target_at resolution elf input (through_of (all_symbols resolution.rows) summary symbol)
 
 -- a relocation of a section as it is looked at
-abbrev pub referral_of : Settled → Elf → InputSummary → ℕ → ℕ → Rela → Referral
-referral_of settled elf summary input section rela = record {
+abbrev pub referral_of : ResolutionValue → Elf → InputSummary → ℕ → ℕ → Rela → Referral
+referral_of resolution elf summary input section rela = record {
   input = input;
   section = section;
   offset = rela.r_offset;
-  code = code_of_rela rela;
+  code = r_type_of rela;
   addend = rela.r_addend;
-  target = symbol_target settled elf summary input (symbol_of_rela rela);
+  target = symbol_target resolution elf summary input (r_symbol_of rela);
 }
 
 -- what an output section says of references in it

@@ -7,8 +7,8 @@
 //! order. `scan` answers by the definition `ScanGives` of specs/Scans.antt, over lk_model's `faults_in`,
 //! `needs_of` and `recorded_of`. `LinkScan` does it for the objects of a link, one after another.
 //!
-//! Callers rely on two laws: a scan succeeds exactly where `told_once` of the faults is empty, and the faults
-//! that it tells are that list; and over the added inputs of a command, in adding order, the scans come to
+//! Callers rely on two laws: a scan succeeds exactly where `reported_once` of the faults is empty, and the faults
+//! that it reports are that list; and over the added inputs of a command, in adding order, the scans come to
 //! what lk_model finds of the whole link (`scans_are_the_links`). Each of an object's symbols is looked at once,
 //! before its references, and found by its number in a list, so each reference takes constant time; with
 //! `NameMeanings` the symbols of a name are gone through once for a whole link.
@@ -28,7 +28,7 @@ mod slots;
 mod symbol_targets;
 mod target_lists;
 mod targets;
-mod told_faults;
+mod reported_faults;
 
 pub use laws::scans_are_the_links;
 pub use link_scans::LinkScan;

@@ -23,7 +23,7 @@ use std::alloc::Global;
 use std::marker::Model;
 
 /// What the objects of a link so far need, and their faults. Contracts see it as what is noted of their
-/// references, or as none once memory was wanted: it then answers want of memory from then on.
+/// references, or as none once memory was wanted: it then answers out of memory from then on.
 #[derive(Drop)]
 pub struct LinkScan {
     alloc: Global,
@@ -70,11 +70,11 @@ impl LinkScan {
     }
 
     /// Scans an object, which is the input with this number, as `scan` does, after those that were scanned
-    /// before it: what both need is needed once, and a fault that is told once per name is told once.
+    /// before it: what both need is needed once, and a fault that is reported once per name is reported once.
     /// `meanings` says what the names of the resolution mean.
     ///
     /// # Errors
-    /// Want of memory, now or before. The scan answers it from then on.
+    /// Out of memory, now or before. The scan answers it from then on.
     pub fn add(
         &mut self,
         object: &Object,
@@ -107,7 +107,7 @@ impl LinkScan {
     /// What the scanned objects need together, and what an image records of their references.
     ///
     /// # Errors
-    /// All faults of the objects, in the order in which they were scanned; or want of memory, now or before.
+    /// All faults of the objects, in the order in which they were scanned; or out of memory, now or before.
     pub fn finish(self) -> Result<Scanned, ScanFailure>
         ensures answered { (scan : Scan) → self ≡ Some scan → Answers scan result }
         ensures spent { self ≡ None → result ≡ Err ScanFailure.NoMemory }

@@ -43,7 +43,7 @@ impl NameMeanings {
     /// What these names mean.
     ///
     /// # Errors
-    /// Want of memory.
+    /// Out of memory.
     pub fn of(alloc: Global, names: &SymTab) -> Result<NameMeanings, NoMemory>
         ensures { IfOk result (λ meanings. meanings ≡ meanings_of names.now) }
     {

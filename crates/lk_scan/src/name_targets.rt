@@ -16,7 +16,7 @@ use lk_report::Name;
 use lk_symtab::SymTab;
 
 /// The number of a name, or how many names there are.
-#[tactic(auto, using(crate::proofs::NamesSeen::number_told))]
+#[tactic(auto, using(crate::proofs::NamesSeen::number_reported))]
 pub fn number_of(names: &SymTab, name: &Name) -> u32
     ensures { result ≡ number_of_name (all_symbols names.now) name.now }
 {
@@ -83,7 +83,7 @@ fn is_nothing(winner: Winner) -> bool
     }
 }
 
-/// Whether a winner is thread-local, as its symbol tells.
+/// Whether a winner is thread-local, as its symbol reports.
 fn is_tls_winner(symbols: &Contributions, winner: Winner) -> bool
     ensures { result ≡ is_tls_winner symbols.now winner }
 {
@@ -108,7 +108,7 @@ fn import_seen(number: u32, symbols: &Contributions, winner: Winner) -> Option<I
 }
 
 /// The import that the name of a number means, where it means one.
-#[tactic(auto, using(crate::proofs::NamesSeen::import_told, crate::proofs::NamesSeen::no_import))]
+#[tactic(auto, using(crate::proofs::NamesSeen::import_reported, crate::proofs::NamesSeen::no_import))]
 pub fn import_at(names: &SymTab, number: u32) -> Option<&Symbol>
     ensures { option_copied result ≡ import_in names.now number }
 {
@@ -149,7 +149,7 @@ fn target_with(number: u32, weak: bool, symbols: &Contributions, winner: Winner)
 }
 
 /// What the name of a number means to a reference, which is weak or not.
-#[tactic(auto, using(crate::proofs::NamesSeen::target_told, crate::proofs::NamesSeen::no_target))]
+#[tactic(auto, using(crate::proofs::NamesSeen::target_reported, crate::proofs::NamesSeen::no_target))]
 pub fn name_target(names: &SymTab, number: u32, weak: bool) -> Target
     ensures { result ≡ name_target names.now number weak }
 {

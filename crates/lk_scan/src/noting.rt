@@ -4,7 +4,7 @@
 ghost use Rattle.std.specs.Prelude.{◌≡◌, ◌<◌, ◌++◌, [], true, false, IsTrue, OnOk, get_or, length};
 ghost use Rattle.lk_model.specs.Elf.{elf_of};
 ghost use Rattle.lk_model.specs.KeptPieces.{is_loaded};
-ghost use Rattle.lk_model.specs.Objects.{code_of_rela, is_piece_in, relocations_in, summary_in, symbol_of_rela};
+ghost use Rattle.lk_model.specs.Objects.{r_type_of, is_piece_in, relocations_in, summary_in, r_symbol_of};
 ghost use Rattle.lk_model.specs.ScanFaults.{is_eh_frame};
 ghost use Rattle.lk_scan.specs.Noted.{nothing_noted, with_pieces, with_referral, with_relas};
 ghost use Rattle.lk_scan.specs.ReferralNeeds.{recorded_on};
@@ -15,7 +15,7 @@ use crate::need_sets::NeedSets;
 use crate::referral_faults::note_faults;
 use crate::symbol_targets::symbol_target;
 use crate::targets::{Referral, Setting, Target, Way};
-use crate::told_faults::Told;
+use crate::reported_faults::FileAnswers;
 use lk_elf::Rela;
 use lk_model::layouts::{Class, SectionKey};
 use lk_model::records::{Reference, ReferenceList};
@@ -30,7 +30,7 @@ use std::alloc::Global;
 #[derive(Drop)]
 pub struct Scan {
     pub needs: NeedSets,
-    pub told: Told,
+    pub reported: FileAnswers,
     pub references: ReferenceList,
 }
 
@@ -40,7 +40,7 @@ pub fn new_scan(alloc: Global) -> Scan
 {
     Scan {
         needs: NeedSets::new(alloc),
-        told: Told::new(alloc),
+        reported: FileAnswers::new(alloc),
         references: List::new(alloc),
     }
 }
@@ -87,7 +87,7 @@ fn setting_of(key: &SectionKey) -> Setting
 
 /// The number of a relocation's symbol.
 fn symbol_of(rela: &Rela) -> u32
-    ensures { result ≡ symbol_of_rela rela.now }
+    ensures { result ≡ r_symbol_of rela.now }
 {
     let info = rela.r_info;
     (info / 0x1_0000_0000) as u32
@@ -95,7 +95,7 @@ fn symbol_of(rela: &Rela) -> u32
 
 /// The number of a relocation's type.
 fn code_of(rela: &Rela) -> u32
-    ensures { result ≡ code_of_rela rela.now }
+    ensures { result ≡ r_type_of rela.now }
 {
     let info = rela.r_info;
     (info % 0x1_0000_0000) as u32
@@ -129,7 +129,7 @@ fn note(
 ) -> Result<(), NoMemory>
     ensures { OnOk result (scan.new ≡ with_referral names.now path.now setting scan.old referral.now) }
 {
-    note_faults(&mut scan.told, names, path, setting, referral)?;
+    note_faults(&mut scan.reported, names, path, setting, referral)?;
     if setting.is_loaded {
         scan.needs.note(referral)?;
     }

@@ -12,59 +12,59 @@ use crate::forms::{
 };
 use crate::name_targets::import_at;
 use crate::targets::{Import, Referral, Setting, Target, Way};
-use crate::told_faults::Told;
+use crate::reported_faults::FileAnswers;
 use lk_elf::numbers::STT_OBJECT;
 use lk_report::{Fault, Name, NoMemory};
 use lk_symtab::SymTab;
 
-/// Tells that the name of a number is undefined.
+/// Reports that the name of a number is undefined.
 #[tactic(auto, using(crate::proofs::NamesSeen::named_at, crate::proofs::NamesSeen::unnamed))]
-fn tell_name(
-    told: &mut Told,
+fn report_name(
+    reported: &mut FileAnswers,
     names: &SymTab,
     path: &Name,
     number: u32,
     referral: &Referral,
 ) -> Result<(), NoMemory>
-    ensures { OnOk result (told.new ≡ fold with_fault told.old (undefined_name_at names.now (Way.Name number false) (site_in path.now referral.now))) }
+    ensures { OnOk result (reported.new ≡ fold with_fault reported.old (undefined_name_at names.now (Way.Name number false) (site_in path.now referral.now))) }
 {
     if number >= names.len() {
         return Ok(());
     }
     let name = &names.at(number).name;
-    told.tell_undefined(name, path, referral)
+    reported.report_undefined(name, path, referral)
 }
 
 /// Notes that a reference goes to a name that nothing defines.
 fn note_undefined(
-    told: &mut Told,
+    reported: &mut FileAnswers,
     names: &SymTab,
     path: &Name,
     referral: &Referral,
 ) -> Result<(), NoMemory>
-    ensures { OnOk result (told.new ≡ fold with_fault told.old (undefined_on names.now path.now referral.now)) }
+    ensures { OnOk result (reported.new ≡ fold with_fault reported.old (undefined_on names.now path.now referral.now)) }
 {
     if !referral.target.is_undefined {
         return Ok(());
     }
     match referral.target.way {
-        Way::Name { number, .. } => tell_name(told, names, path, number, referral),
+        Way::Name { number, .. } => report_name(reported, names, path, number, referral),
         Way::Local(_) => Ok(()),
     }
 }
 
 /// Notes that a reference goes to a LOCAL symbol of a section that is not linked.
 fn note_dropped(
-    told: &mut Told,
+    reported: &mut FileAnswers,
     path: &Name,
     setting: Setting,
     referral: &Referral,
 ) -> Result<(), NoMemory>
-    ensures { OnOk result (told.new ≡ fold with_fault told.old (dropped_on path.now setting referral.now)) }
+    ensures { OnOk result (reported.new ≡ fold with_fault reported.old (dropped_on path.now setting referral.now)) }
 {
     if setting.wants_sections && referral.target.is_dropped {
-        let site = told.site(path, referral)?;
-        return told.tell(Fault::DroppedLocal { site });
+        let site = reported.site(path, referral)?;
+        return reported.report(Fault::DroppedLocal { site });
     }
     Ok(())
 }
@@ -83,17 +83,17 @@ fn is_refused(loaded: bool, target: Target, code: u32) -> bool
 
 /// Notes that a type is not supported.
 fn note_unsupported(
-    told: &mut Told,
+    reported: &mut FileAnswers,
     path: &Name,
     setting: Setting,
     referral: &Referral,
 ) -> Result<(), NoMemory>
-    ensures { OnOk result (told.new ≡ fold with_fault told.old (unsupported_on path.now setting referral.now)) }
+    ensures { OnOk result (reported.new ≡ fold with_fault reported.old (unsupported_on path.now setting referral.now)) }
 {
     let code = referral.code;
     if is_refused(setting.is_loaded, referral.target, code) {
-        let site = told.site(path, referral)?;
-        return told.tell(Fault::Unsupported { code, site });
+        let site = reported.site(path, referral)?;
+        return reported.report(Fault::Unsupported { code, site });
     }
     Ok(())
 }
@@ -105,37 +105,37 @@ fn is_empty_copy(code: u32, import: Import) -> bool
     is_address_form(code) && (import.code == STT_OBJECT as u32 && import.size == 0)
 }
 
-/// Tells that the copy of an import is empty.
-fn tell_empty_copy(
-    told: &mut Told,
+/// Reports that the copy of an import is empty.
+fn report_empty_copy(
+    reported: &mut FileAnswers,
     names: &SymTab,
     path: &Name,
     number: u32,
     referral: &Referral,
 ) -> Result<(), NoMemory>
-    ensures { OnOk result (told.new ≡ fold with_fault told.old (empty_copy_of names.now number (site_in path.now referral.now))) }
+    ensures { OnOk result (reported.new ≡ fold with_fault reported.old (empty_copy_of names.now number (site_in path.now referral.now))) }
 {
     match import_at(names, number) {
-        Some(symbol) => told.tell_empty_copy(&symbol.name, path, referral),
+        Some(symbol) => reported.report_empty_copy(&symbol.name, path, referral),
         None => Ok(()),
     }
 }
 
-/// Tells that a thread-local import is reached directly.
-fn tell_direct_tls(
-    told: &mut Told,
+/// Reports that a thread-local import is reached directly.
+fn report_direct_tls(
+    reported: &mut FileAnswers,
     names: &SymTab,
     path: &Name,
     number: u32,
     referral: &Referral,
 ) -> Result<(), NoMemory>
-    ensures { OnOk result (told.new ≡ fold with_fault told.old (direct_tls_of names.now number (site_in path.now referral.now))) }
+    ensures { OnOk result (reported.new ≡ fold with_fault reported.old (direct_tls_of names.now number (site_in path.now referral.now))) }
 {
     match import_at(names, number) {
         Some(symbol) => {
-            let name = told.name(&symbol.name)?;
-            let site = told.site(path, referral)?;
-            told.tell(Fault::ImportedTlsDirect { name, site })
+            let name = reported.name(&symbol.name)?;
+            let site = reported.site(path, referral)?;
+            reported.report(Fault::ImportedTlsDirect { name, site })
         }
         None => Ok(()),
     }
@@ -143,32 +143,32 @@ fn tell_direct_tls(
 
 /// Notes that a reference to an import needs an empty copy.
 fn note_empty_copy(
-    told: &mut Told,
+    reported: &mut FileAnswers,
     names: &SymTab,
     path: &Name,
     referral: &Referral,
     import: Import,
 ) -> Result<(), NoMemory>
-    ensures { OnOk result (told.new ≡ fold with_fault told.old (cond (is_empty_copy referral.now.code import) (empty_copy_of names.now import.name (site_in path.now referral.now)) [])) }
+    ensures { OnOk result (reported.new ≡ fold with_fault reported.old (cond (is_empty_copy referral.now.code import) (empty_copy_of names.now import.name (site_in path.now referral.now)) [])) }
 {
     if is_empty_copy(referral.code, import) {
-        return tell_empty_copy(told, names, path, import.name, referral);
+        return report_empty_copy(reported, names, path, import.name, referral);
     }
     Ok(())
 }
 
 /// Notes that a reference reaches a thread-local import directly.
 fn note_direct_tls(
-    told: &mut Told,
+    reported: &mut FileAnswers,
     names: &SymTab,
     path: &Name,
     referral: &Referral,
     import: Import,
 ) -> Result<(), NoMemory>
-    ensures { OnOk result (told.new ≡ fold with_fault told.old (cond (is_thread_offset referral.now.code) (direct_tls_of names.now import.name (site_in path.now referral.now)) [])) }
+    ensures { OnOk result (reported.new ≡ fold with_fault reported.old (cond (is_thread_offset referral.now.code) (direct_tls_of names.now import.name (site_in path.now referral.now)) [])) }
 {
     if is_thread_offset(referral.code) {
-        return tell_direct_tls(told, names, path, import.name, referral);
+        return report_direct_tls(reported, names, path, import.name, referral);
     }
     Ok(())
 }
@@ -176,34 +176,34 @@ fn note_direct_tls(
 /// Notes the faults of a reference to an import.
 #[tactic(auto, using(crate::proofs::Folds::folded_twice))]
 fn note_import(
-    told: &mut Told,
+    reported: &mut FileAnswers,
     names: &SymTab,
     path: &Name,
     referral: &Referral,
     import: Import,
 ) -> Result<(), NoMemory>
-    ensures { OnOk result (told.new ≡ fold with_fault told.old (of_import names.now path.now referral.now import)) }
+    ensures { OnOk result (reported.new ≡ fold with_fault reported.old (of_import names.now path.now referral.now import)) }
 {
-    note_empty_copy(told, names, path, referral, import)?;
-    note_direct_tls(told, names, path, referral, import)?;
+    note_empty_copy(reported, names, path, referral, import)?;
+    note_direct_tls(reported, names, path, referral, import)?;
     Ok(())
 }
 
 /// Notes the faults of a reference in a loaded piece to an import, where it goes to one.
 fn note_imported(
-    told: &mut Told,
+    reported: &mut FileAnswers,
     names: &SymTab,
     path: &Name,
     setting: Setting,
     referral: &Referral,
 ) -> Result<(), NoMemory>
-    ensures { OnOk result (told.new ≡ fold with_fault told.old (import_faults_on names.now path.now setting referral.now)) }
+    ensures { OnOk result (reported.new ≡ fold with_fault reported.old (import_faults_on names.now path.now setting referral.now)) }
 {
     if !setting.is_loaded {
         return Ok(());
     }
     match referral.target.import {
-        Some(import) => note_import(told, names, path, referral, import),
+        Some(import) => note_import(reported, names, path, referral, import),
         None => Ok(()),
     }
 }
@@ -211,17 +211,17 @@ fn note_imported(
 /// Notes the faults of a reference in the file with this path.
 #[tactic(auto, using(crate::proofs::Folds::folded_four))]
 pub fn note_faults(
-    told: &mut Told,
+    reported: &mut FileAnswers,
     names: &SymTab,
     path: &Name,
     setting: Setting,
     referral: &Referral,
 ) -> Result<(), NoMemory>
-    ensures { OnOk result (told.new ≡ fold with_fault told.old (faults_on names.now path.now setting referral.now)) }
+    ensures { OnOk result (reported.new ≡ fold with_fault reported.old (faults_on names.now path.now setting referral.now)) }
 {
-    note_undefined(told, names, path, referral)?;
-    note_dropped(told, path, setting, referral)?;
-    note_unsupported(told, path, setting, referral)?;
-    note_imported(told, names, path, setting, referral)?;
+    note_undefined(reported, names, path, referral)?;
+    note_dropped(reported, path, setting, referral)?;
+    note_unsupported(reported, path, setting, referral)?;
+    note_imported(reported, names, path, setting, referral)?;
     Ok(())
 }

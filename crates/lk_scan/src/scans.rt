@@ -32,7 +32,7 @@ pub struct Scanned {
 pub enum ScanFailure {
     /// The faults of the references, in order.
     Faults(FaultList),
-    /// Want of memory.
+    /// Out of memory.
     NoMemory,
 }
 
@@ -66,10 +66,10 @@ pub fn answer(alloc: Global, scan: Scan) -> Result<Scanned, ScanFailure>
 {
     let Scan {
         needs,
-        told,
+        reported,
         references,
     } = scan;
-    let faults = told.into_faults();
+    let faults = reported.into_faults();
     if has_faults(&faults) {
         return Err(ScanFailure::Faults(faults));
     }
@@ -85,7 +85,7 @@ pub fn answer(alloc: Global, scan: Scan) -> Result<Scanned, ScanFailure>
 ///
 /// # Errors
 /// All faults of the references, by piece and relocation, several of one reference in the order in which
-/// `Fault` has them, an undefined name and the empty copy of a name once; or want of memory.
+/// `Fault` has them, an undefined name and the empty copy of a name once; or out of memory.
 #[tactic(auto, using(crate::proofs::PiecesNoted::scan_answers))]
 pub fn scan(
     alloc: Global,

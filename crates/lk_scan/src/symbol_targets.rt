@@ -31,7 +31,7 @@ pub fn global_target(names: &SymTab, meanings: Option<&NameMeanings>, global: &S
 }
 
 /// What a symbol of an object means to its relocations, by its number.
-#[tactic(auto, using(crate::proofs::TargetsListed::told_there, crate::proofs::TargetsListed::told_past))]
+#[tactic(auto, using(crate::proofs::TargetsListed::reported_there, crate::proofs::TargetsListed::reported_past))]
 pub fn symbol_target(
     targets: &[Target],
     resolution: &Resolution,

@@ -88,7 +88,7 @@ fn set_globals(
 /// mean is taken from `meanings`, where it is known.
 ///
 /// # Errors
-/// Want of memory.
+/// Out of memory.
 pub fn target_list(
     alloc: Global,
     resolution: &Resolution,

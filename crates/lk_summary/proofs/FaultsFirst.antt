@@ -36,12 +36,12 @@ lacked : (o p : Option InputFault) (e : Ehdr) (f : InputFault) → header_with o
 lacked (Some g) p e f is = cc (is)
 lacked None p e f is = absurd (cc)
 
-pub header_told : (bytes : List ℕ) (h : Ehdr) → header_of bytes ≡ Ok h → kind_of bytes ≡ kind_under h
-header_told bytes h is =
+pub header_reported : (bytes : List ℕ) (h : Ehdr) → header_of bytes ≡ Ok h → kind_of bytes ≡ kind_under h
+header_reported bytes h is =
     let front = first_fault (front_checks bytes) in
     let e = ehdr_at bytes 0 in
     kind_joined bytes ∙ had front (first_fault (header_checks e)) e h is ∙ ap kind_under (same_header front e h is)
 
-pub front_told : (bytes : List ℕ) (f : InputFault) → header_of bytes ≡ Err f → Err f ≡ kind_of bytes
-front_told bytes f is =
+pub front_reported : (bytes : List ℕ) (f : InputFault) → header_of bytes ≡ Err f → Err f ≡ kind_of bytes
+front_reported bytes f is =
     sym (kind_joined bytes ∙ lacked (first_fault (front_checks bytes)) (first_fault (header_checks (ehdr_at bytes 0))) (ehdr_at bytes 0) f is)

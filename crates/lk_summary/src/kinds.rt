@@ -1,4 +1,4 @@
-//! What a file is (gABI "ELF Header", "ELF Identification"): an archive and a text are told by their
+//! What a file is (gABI "ELF Header", "ELF Identification"): an archive and a text are reported by their
 //! first bytes, then class, byte order, version, machine and type are looked at in this order.
 
 ghost use Rattle.std.specs.Prelude.{◌≡◌, nat_eq, take, ◌==◌, ◌||◌, not};
@@ -22,7 +22,7 @@ fn is_archive(bytes: &[u8]) -> bool
     bytes.starts_with(b"!<arch>") || bytes.starts_with(b"!<thin>")
 }
 
-/// Whether the magic bytes stand in front.
+/// Whether the magic bytes are in front.
 fn has_magic(bytes: &[u8]) -> bool
     ensures { result ≡ has_magic bytes.now }
 {
@@ -109,10 +109,10 @@ fn kind_under(header: &Ehdr) -> Result<Kind, InputFault>
 /// What a file is, by its first bytes.
 ///
 /// # Errors
-/// The first that stands: an archive, a script, no ELF file (also where the file is shorter than its
+/// The first that is: an archive, a script, no ELF file (also where the file is shorter than its
 /// header), another class, byte order or version, another machine, a type that is neither relocatable
 /// nor shared.
-#[tactic(auto, using(crate::proofs::FaultsFirst::header_told))]
+#[tactic(auto, using(crate::proofs::FaultsFirst::header_reported))]
 pub fn kind_of(bytes: &[u8]) -> Result<Kind, InputFault>
     ensures { result ≡ kind_of bytes.now }
 {

@@ -1,5 +1,5 @@
 -- The entries of the map as rows: an entry under a name that is there or new gives the rows with one more
--- symbol, and each name stands beside its own row.
+-- symbol, and each name is beside its own row.
 use Rattle.std.proofs.Common.{◌≡◌, refl, sym, ap, ◌∙◌, arith, ℕ, zero, suc, ◌+◌, ◌-◌, ◌<◌, ◌^◌, Bool, true, false, cond, List, [], ◌∷◌, ◌++◌, length, Option, None, Some, is_some, Result, Ok, Err, IsErr, not, nat_lt, position, slice_get, length-append}
 use Rattle.std.specs.List.{position_or_len}
 use Rattle.std.specs.Cmp.Lexicographic.{nat_list_eq_equiv}
@@ -134,7 +134,7 @@ found_adds es rows new name n c copy (Ok number) table view at same adds = (
 )
 found_adds es rows new name n c copy (Err want) table view at same adds = adds
 
--- after want of memory the row was written again as it was
+-- after out of memory the row was written again as it was
 pub kept_adds : (old new : List NameRow) (n : ℕ) (c : Contribution) (answer : Result ℕ NoMemory) → IsErr answer → new ≡ old → AddsAt old n c answer new
 kept_adds old new n c (Ok number) err same = absurd (cc)
 kept_adds old new n c (Err want) err same = same
@@ -145,7 +145,7 @@ pub record Adds (rows : List NameRow) (name : List ℕ) (c : Contribution) (numb
   pub number_is : number ≡ number_for rows name
   pub rows_are : values_of new ≡ with_symbol rows name c
 
--- a row for a new name stands last
+-- a row for a new name is last
 pub added_last : (es new : List (List ℕ × NameRow)) (rows : List NameRow) (key name : List ℕ) (row : NameRow) (n : ℕ) (c : Contribution) → IsTable es → values_of es ≡ rows → length rows < 2 ^ 32 - 1 → number_of rows name ≡ None → key ≡ name → row ≡ new_row name c
     → new ≡ insert_entry bytes_eq es key row → n ≡ position_or_len (bytes_eq key) (keys_of es) → Adds rows name c n new
 added_last es new rows key name row n c table view few at same first put number =

@@ -12,14 +12,14 @@ use Rattle.lk_model.specs.Symbols.{is_of_object, is_strong_definition, is_weak_d
 use Rattle.lk_model.specs.Winners.{first_offered, made_where, stricter, visibility_of}
 use Rattle.lk_symtab.specs.declared.bests.Best.{Best}
 use Rattle.lk_symtab.specs.declared.bests.Block.{Block}
-use Rattle.lk_symtab.specs.declared.bests.Place.{Place}
+use Rattle.lk_symtab.specs.declared.bests.SymbolId.{SymbolId}
 
--- where a symbol stands: its input and its number there
-abbrev pub place_of : Contribution → Place
+-- where a symbol is: its input and its number there
+abbrev pub place_of : Contribution → SymbolId
 place_of c = record { input = c.input; symbol = c.global.symbol }
 
--- where the first symbol stands that passes a test
-abbrev pub first_place : (Contribution → Bool) → List Contribution → Option Place
+-- where the first symbol is that passes a test
+abbrev pub first_place : (Contribution → Bool) → List Contribution → Option SymbolId
 first_place test list = option_map place_of (find test list)
 
 -- the common blocks merged: the greatest size and the greatest alignment, which is a common's value
@@ -40,7 +40,7 @@ abbrev pub with_last : Contributions → Contribution → Contributions
 with_last cs c = record cs { list = cs.list ++ c ∷ [] }
 
 -- the first place, where one more symbol passes the test or not
-abbrev pub place_with : Option Place → Bool → Contribution → Option Place
+abbrev pub place_with : Option SymbolId → Bool → Contribution → Option SymbolId
 place_with place passes c = option_or place (cond passes (Some (place_of c)) None)
 
 -- a merged block with one more common of this size and alignment
@@ -65,20 +65,20 @@ unfoldable pub best_with : Best → Contribution → Best
 best_with best c = record { strong = place_with best.strong (is_strong_definition c) c; common = block_with best.common (is_object_common c) c; weak = place_with best.weak (is_weak_definition c) c; import = place_with best.import (is_shared_definition c) c; visibility = visibility_with best.visibility (is_of_object c) c; is_referred = best.is_referred || is_object_reference c; is_needed = best.is_needed || is_global_reference c }
 
 -- the definition at a place or of a block, as a winner
-abbrev pub strong_at : Place → Winner
+abbrev pub strong_at : SymbolId → Winner
 strong_at place = winner.Strong place.input place.symbol
 
 abbrev pub common_of : Block → Winner
 common_of block = winner.Common block.size block.align
 
-abbrev pub weak_at : Place → Winner
+abbrev pub weak_at : SymbolId → Winner
 weak_at place = winner.Weak place.input place.symbol
 
-abbrev pub import_at : Place → Winner
+abbrev pub import_at : SymbolId → Winner
 import_at place = winner.Import place.input place.symbol
 
 -- an import, which only a name of default visibility can mean
-abbrev pub import_with : ℕ → Option Place → Option Winner
+abbrev pub import_with : ℕ → Option SymbolId → Option Winner
 import_with visibility import = cond (visibility == stv_default) (option_map import_at import) None
 
 -- the winner that is picked from the best: strong, common, weak, made, import

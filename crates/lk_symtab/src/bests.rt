@@ -13,9 +13,9 @@ use crate::symbol_kinds::{
 use lk_elf::numbers::STV_DEFAULT;
 use lk_model::summaries::{Contribution, Winner};
 
-/// Where a symbol stands: its input and its number there.
+/// Where a symbol is: its input and its number there.
 #[derive(Clone, Copy)]
-pub struct Place {
+pub struct SymbolId {
     pub input: u32,
     pub symbol: u32,
 }
@@ -33,13 +33,13 @@ pub struct Block {
 #[derive(Clone, Copy)]
 pub struct Best {
     /// The first strong definition in an object.
-    pub strong: Option<Place>,
+    pub strong: Option<SymbolId>,
     /// The merged common of the objects.
     pub common: Option<Block>,
     /// The first weak definition in an object.
-    pub weak: Option<Place>,
+    pub weak: Option<SymbolId>,
     /// The first definition in a shared input.
-    pub import: Option<Place>,
+    pub import: Option<SymbolId>,
     /// The most constraining visibility of the symbols in objects.
     pub visibility: u32,
     /// Whether an object refers to the name.
@@ -85,20 +85,20 @@ impl Best {
     pub fn winner(&self, is_made: bool) -> Winner
         ensures { result ≡ picked self.now is_made }
     {
-        if let Some(Place { input, symbol }) = self.strong {
+        if let Some(SymbolId { input, symbol }) = self.strong {
             return Winner::Strong { input, symbol };
         }
         if let Some(Block { size, align }) = self.common {
             return Winner::Common { size, align };
         }
-        if let Some(Place { input, symbol }) = self.weak {
+        if let Some(SymbolId { input, symbol }) = self.weak {
             return Winner::Weak { input, symbol };
         }
         if is_made {
             return Winner::Made;
         }
         match self.import {
-            Some(Place { input, symbol }) if self.visibility == STV_DEFAULT as u32 => {
+            Some(SymbolId { input, symbol }) if self.visibility == STV_DEFAULT as u32 => {
                 Winner::Import { input, symbol }
             }
             _ => Winner::Nothing,
@@ -107,11 +107,11 @@ impl Best {
 }
 
 /// The first place, where one more symbol passes a test or not.
-fn place_with(place: Option<Place>, passes: bool, symbol: &Contribution) -> Option<Place>
+fn place_with(place: Option<SymbolId>, passes: bool, symbol: &Contribution) -> Option<SymbolId>
     ensures { result ≡ place_with place passes symbol.now }
 {
     if place.is_none() && passes {
-        return Some(Place {
+        return Some(SymbolId {
             input: symbol.input,
             symbol: symbol.global.symbol,
         });

@@ -57,7 +57,7 @@ impl Row {
         })
     }
 
-    /// Puts a symbol at the end of the name's list; the row is unchanged after want of memory.
+    /// Puts a symbol at the end of the name's list; the row is unchanged after out of memory.
     #[tactic(auto, using(crate::proofs::BestsKept::best_pushed))]
     pub fn push(&mut self, symbol: Contribution) -> Result<(), NoMemory>
         ensures pushed { OnOk result (self.new ≡ row_with self.old symbol) }

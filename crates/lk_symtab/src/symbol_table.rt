@@ -80,7 +80,7 @@ impl SymTab {
     /// is the next one where the name is new. `kind` says what the input is.
     ///
     /// # Errors
-    /// Want of memory. The table is then unchanged.
+    /// Out of memory. The table is then unchanged.
     pub fn add(
         &mut self,
         name: &Name,
@@ -97,7 +97,7 @@ impl SymTab {
     /// Adds a symbol as `add` does, with another home: one in a section that the link drops is a reference.
     ///
     /// # Errors
-    /// Want of memory. The table is then unchanged.
+    /// Out of memory. The table is then unchanged.
     #[tactic(auto, using(crate::proofs::Entries::number_is))]
     pub fn add_at_home(
         &mut self,

@@ -1,9 +1,9 @@
 //! Tests of what inputs decide, and of the sizes of the tables that they need, by small links whose numbers are
 //! counted by hand.
 //!
-//! They stand in a crate of their own above the crates that they call, since a crate with tests is proved
+//! They are in a crate of their own above the crates that they call, since a crate with tests is proved
 //! twice. `making` makes what both use; `resolutions` shows which inputs are added, which sections are kept and
-//! what names mean (lk_resolve), `tables` the tables of a static and of a dynamic link (lk_table_sizes).
+//! what names mean (lk_resolve), `tables` the tables of a static and of a dynamic link (lk_dyn_sizes).
 //! What is called here is public, and each public call of these crates that takes memory is run by a test that
 //! succeeds, here or in a crate above.
 #![tactic(auto)]

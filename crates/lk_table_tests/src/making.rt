@@ -61,8 +61,8 @@ pub fn added(mut resolver: Resolver, inputs: &SummaryList) -> Result<Resolver, N
     Ok(resolver)
 }
 
-/// What is settled, where no name has a fault.
-pub fn settled(resolver: Resolver) -> Result<Resolution, NoMemory> {
+/// What is resolved, where no name has a fault.
+pub fn resolved(resolver: Resolver) -> Result<Resolution, NoMemory> {
     match resolver.settle() {
         Ok(resolution) => Ok(resolution),
         Err(_) => Err(NoMemory),

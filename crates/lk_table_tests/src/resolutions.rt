@@ -1,7 +1,7 @@
 //! Small links by hand: lib groups whose members are wanted or not, groups of one signature, two strong
 //! definitions of one name, and a weak one against common blocks.
 
-use crate::making::{added, both, only, resolver, settled, symbol, symbols};
+use crate::making::{added, both, only, resolver, resolved, symbol, symbols};
 use lk_elf::numbers::STB_WEAK;
 use lk_model::layouts::{Class, SectionKey};
 use lk_model::summaries::{
@@ -133,10 +133,10 @@ fn with_group(
     Ok(resolver)
 }
 
-/// What is settled of an object, and of a lib group of the two members after it.
+/// What is resolved of an object, and of a lib group of the two members after it.
 fn with_members(alloc: Global, object: &InputSummary) -> Result<Resolution, NoMemory> {
     let members = members(alloc)?;
-    settled(with_group(alloc, object, &members)?)
+    resolved(with_group(alloc, object, &members)?)
 }
 
 /// Whether a name has this meaning; no name has none.
@@ -173,15 +173,15 @@ fn a_weak_reference_adds_no_member(rt: HostRuntime) -> Result<(), NoMemory> {
     Ok(())
 }
 
-/// What is settled of an object that is added twice.
-fn settled_twice(alloc: Global, object: &InputSummary) -> Result<Resolution, NoMemory> {
-    settled(with_twice(alloc, object)?)
+/// What is resolved of an object that is added twice.
+fn resolved_twice(alloc: Global, object: &InputSummary) -> Result<Resolution, NoMemory> {
+    resolved(with_twice(alloc, object)?)
 }
 
 #[test]
 fn a_second_group_of_a_signature_is_dropped(rt: HostRuntime) -> Result<(), NoMemory> {
     let object = grouped(rt.alloc())?;
-    let resolution = settled_twice(rt.alloc(), &object)?;
+    let resolution = resolved_twice(rt.alloc(), &object)?;
     assert!(rt; resolution.is_kept(0, 1));
     assert!(rt; !resolution.is_kept(1, 1));
     assert_eq!(rt; resolution.inputs(), 2);
@@ -206,11 +206,11 @@ fn entry_twice(alloc: Global) -> Result<Fault, NoMemory> {
 }
 
 #[test]
-fn a_second_strong_definition_is_told_against_the_first(rt: HostRuntime) -> Result<(), NoMemory> {
+fn a_second_strong_definition_is_reported_against_the_first(rt: HostRuntime) -> Result<(), NoMemory> {
     let object = object(rt.alloc(), b"_start", b"_start")?;
     let faults = faults_twice(rt.alloc(), &object)?;
-    let told = [entry_twice(rt.alloc())?];
-    assert_eq!(rt; faults.as_slice(), told.as_slice());
+    let reported = [entry_twice(rt.alloc())?];
+    assert_eq!(rt; faults.as_slice(), reported.as_slice());
     Ok(())
 }
 
@@ -223,14 +223,14 @@ fn commons(alloc: Global) -> Result<SummaryList, NoMemory> {
     Ok(objects)
 }
 
-/// What is settled of these objects.
-fn settled_of(alloc: Global, objects: &SummaryList) -> Result<Resolution, NoMemory> {
-    settled(added(with_paths(alloc)?, objects)?)
+/// What is resolved of these objects.
+fn resolution_of(alloc: Global, objects: &SummaryList) -> Result<Resolution, NoMemory> {
+    resolved(added(with_paths(alloc)?, objects)?)
 }
 
 #[test]
 fn commons_are_merged_before_a_weak_definition(rt: HostRuntime) -> Result<(), NoMemory> {
-    let resolution = settled_of(rt.alloc(), &commons(rt.alloc())?)?;
+    let resolution = resolution_of(rt.alloc(), &commons(rt.alloc())?)?;
     assert_eq!(rt; resolution.added().as_slice(), [0, 1, 2].as_slice());
     let merged = Winner::Common { size: 8, align: 16 };
     assert!(rt; means(rt.alloc(), &resolution, b"name", Some(merged)));

@@ -1,14 +1,14 @@
 //! Two small links by hand: a static one of one object, and a dynamic one of an object and a library. The sizes
 //! are counted by hand.
 
-use crate::making::{added, both, only, resolver, settled, symbols};
+use crate::making::{added, both, only, resolver, resolved, symbols};
 use lk_model::layouts::{
     Class, GotKey, GotKeyList, GotOwner, GotSlotList, Needs, SectionKey, SectionKeyList, SlotTable,
 };
 use lk_model::summaries::{Home, InputSummary, Kind, SummaryList};
 use lk_report::{List, Name, NoMemory, OptionRecord};
 use lk_resolve::Resolution;
-use lk_table_sizes::{SlotFill, TableSizeList, copied_names, slot_fills, table_sizes};
+use lk_dyn_sizes::{SlotFill, TableSizeList, copied_names, slot_fills, table_sizes};
 use std::alloc::Global;
 
 /// An input without sections and with these symbols.
@@ -64,7 +64,7 @@ fn two(alloc: Global) -> Result<SummaryList, NoMemory> {
 
 /// What these inputs decide.
 fn resolution(alloc: Global, inputs: &SummaryList) -> Result<Resolution, NoMemory> {
-    settled(added(resolver(alloc)?, inputs)?)
+    resolved(added(resolver(alloc)?, inputs)?)
 }
 
 /// The slots of two names and of a LOCAL symbol.

@@ -1,4 +1,4 @@
-use Rattle.lk_command.proofs.GrammarTold.{accepted, refused}
+use Rattle.lk_command.proofs.GrammarReported.{accepted, refused}
 use Rattle.lk_command.proofs.parsing.parse_words.Goals as goal
 
 pub returns-in-Some : goal.returns-in-Some

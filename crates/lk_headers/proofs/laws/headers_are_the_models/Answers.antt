@@ -2,7 +2,7 @@ use Rattle.lk_headers.proofs.ModelRows as model
 use Rattle.lk_headers.proofs.laws.headers_are_the_models.Goals as goal
 
 pub returns-clause-there : goal.returns-clause-there
-returns-clause-there c = model.stand_there
+returns-clause-there c = model.are_there
 
 pub returns-clause-front : goal.returns-clause-front
 returns-clause-front c = model.front

@@ -1,6 +1,6 @@
 use Rattle.std.proofs.Common.{refl}
-use Rattle.lk_headers.proofs.FieldBytes.{load_told}
+use Rattle.lk_headers.proofs.FieldBytes.{load_reported}
 use Rattle.lk_headers.proofs.loads.second_load.Goals as goal
 
 pub returns : goal.returns
-returns c = load_told _ _ _ _ _ _ _ _ _ c.load.ensures refl c.second_segment_start.ensures c.end_in.ensures.value c.end_in-2.ensures.value
+returns c = load_reported _ _ _ _ _ _ _ _ _ c.load.ensures refl c.second_segment_start.ensures c.end_in.ensures.value c.end_in-2.ensures.value

@@ -1,6 +1,6 @@
 use Rattle.std.specs.Prelude.{◌≡◌, drop, length}
-use Rattle.lk_laid.specs.Written.{written}
-use Rattle.lk_laid.specs.WrittenLaws.{AllEndWithin}
+use Rattle.lk_law_writes.specs.Written.{written}
+use Rattle.lk_law_writes.specs.WrittenLaws.{AllEndWithin}
 use Rattle.lk_image.specs.Writes.{part_writes}
 use Rattle.lk_image.proofs.writing.put_parts.Given as goal
 

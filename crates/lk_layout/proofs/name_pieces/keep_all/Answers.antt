@@ -1,5 +1,5 @@
 use Rattle.std.proofs.Common.{◌∙◌, ap, arith}
-use Rattle.lk_layout.proofs.NamesTold.{name_step}
+use Rattle.lk_layout.proofs.NamesReported.{name_step}
 use Rattle.lk_layout.proofs.name_pieces.keep_all.Goals as goal
 
 -- one more name may have a piece

@@ -12,6 +12,6 @@ pub record Small (n i : ℕ) : Type 0 where
 
 abbrev pub invariant-loop-digit : goal.invariant-loop-digit
 invariant-loop-digit l = record {
-  told : fold (λ n digit. n * 10 + (digit - 48)) l.n (drop l.digit-index l.digits) ≡ decimal_of l.digits;
+  reported : fold (λ n digit. n * 10 + (digit - 48)) l.n (drop l.digit-index l.digits) ≡ decimal_of l.digits;
   small : Small l.n l.digit-index;
 }

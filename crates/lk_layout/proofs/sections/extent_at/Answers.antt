@@ -1,8 +1,8 @@
 use Rattle.std.proofs.Common.{sym, ap, arith, length}
 use Rattle.std.proofs.Math.ListN.{length-map}
-use Rattle.lk_table_sizes.specs.SizeRows.{as_pairs}
+use Rattle.lk_dyn_sizes.specs.SizeRows.{as_pairs}
 use Rattle.lk_layout.specs.Walked.{walked}
-use Rattle.lk_layout.proofs.ExtentsTold.{found_extent}
+use Rattle.lk_layout.proofs.ExtentsReported.{found_extent}
 use Rattle.lk_layout.proofs.ListSteps.{read_at}
 use Rattle.lk_layout.proofs.sections.extent_at.Goals as goal
 

@@ -1,6 +1,6 @@
 use Rattle.std.proofs.Common.{◌≡◌, ◌++◌, map, drop}
 use Rattle.lk_layout.specs.Extents.{extent_under}
-use Rattle.lk_table_sizes.specs.SizeRows.{as_pairs}
+use Rattle.lk_dyn_sizes.specs.SizeRows.{as_pairs}
 use Rattle.lk_layout.proofs.sections.extents_of.Given as goal
 
 abbrev pub invariant-loop-key : goal.invariant-loop-key

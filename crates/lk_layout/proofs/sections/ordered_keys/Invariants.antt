@@ -1,7 +1,7 @@
 use Rattle.std.proofs.Common.{◌≡◌, ◌++◌, ℕ, map, drop}
 use Rattle.lk_model.specs.declared.layouts.SectionKey.{SectionKey}
 use Rattle.lk_layout.specs.Grouping.{keys_in}
-use Rattle.lk_table_sizes.specs.SizeRows.{as_pairs}
+use Rattle.lk_dyn_sizes.specs.SizeRows.{as_pairs}
 use Rattle.lk_layout.proofs.sections.ordered_keys.Given as goal
 
 abbrev pub invariant-loop-table : goal.invariant-loop-table

@@ -3,7 +3,7 @@ use Rattle.std.proofs.Common.{sym, ◌∙◌, ap, subst}
 use Rattle.lk_elf.specs.declared.section_header.Shdr.{Shdr}
 use Rattle.lk_obj_parts.specs.FieldMarks.{RowsFit}
 use Rattle.lk_obj_parts.specs.TargetRows.{room_with}
-use Rattle.lk_obj_parts.proofs.OverlapsTold.{lists_fit, overlaps_told}
+use Rattle.lk_obj_parts.proofs.OverlapsReported.{lists_fit, overlaps_reported}
 use Rattle.lk_obj_parts.proofs.overlaps.marked_overlap.Goals as goal
 
 pub targets_fault-requires-clause-fit : goal.targets_fault-requires-clause-fit
@@ -29,7 +29,7 @@ targets_fault-requires-clause-fit c t a l =
 pub returns : goal.returns
 returns c symbols =
     c.targets_fault.ensures
-    ∙ overlaps_told
+    ∙ overlaps_reported
     c.args.bytes.now
     c.args.header.now
     c.args.sections.now

@@ -1,10 +1,10 @@
 use Rattle.std.proofs.Common.{subst, sym, ◌∙◌}
 use Rattle.lk_obj_read.specs.ReadObjects.{ArePartsOf, ReadGives}
-use Rattle.lk_obj_read.proofs.ObjectFaults.{checks_told}
+use Rattle.lk_obj_read.proofs.ObjectFaults.{checks_reported}
 use Rattle.lk_obj_read.proofs.object_checks.sound_parts.Goals as goal
 
 pub returns-in-Ok : goal.returns-in-Ok
 returns-in-Ok c =
-    subst (λ told. ReadGives told (ArePartsOf c.args.bytes.now) c.checked_parts.result)
-    (sym (checks_told c.args.bytes.now c.in_default.field-0 (sym c.kind_of.ensures ∙ c.in_default.is)))
+    subst (λ reported. ReadGives reported (ArePartsOf c.args.bytes.now) c.checked_parts.result)
+    (sym (checks_reported c.args.bytes.now c.in_default.field-0 (sym c.kind_of.ensures ∙ c.in_default.is)))
     c.checked_parts.ensures

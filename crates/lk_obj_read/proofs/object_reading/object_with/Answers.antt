@@ -1,8 +1,8 @@
 use Rattle.std.proofs.Common.{◌<◌, ap, length, rules, subst, sym, ◌∙◌}
 use Rattle.lk_model.specs.Elf.{elf_of}
-use Rattle.lk_obj_read.specs.ReadObjects.{StandAt}
-use Rattle.lk_obj_read.proofs.LocalsRead.{symbols_stand}
-use Rattle.lk_obj_read.proofs.ObjectsHeld.{bytes_of}
+use Rattle.lk_obj_read.specs.ReadObjects.{AreAt}
+use Rattle.lk_obj_read.proofs.LocalsRead.{symbols_are_at}
+use Rattle.lk_obj_read.proofs.ObjectsStored.{bytes_of}
 use Rattle.lk_obj_read.proofs.object_reading.object_with.Goals as goal
 
 pub invariant_of-result : goal.invariant_of-result
@@ -12,8 +12,8 @@ invariant_of-result c =
       sound = search rules;
       sections = search rules;
       symbols =
-          subst (λ bytes. StandAt bytes (elf_of bytes).symbols c.place_of_symbols-symbols.result) c.as_slice-file.ensures
-          (symbols_stand c.as_slice-file.result.now c.deref-2.result.now c.place_of_symbols-symbols.result
+          subst (λ bytes. AreAt bytes (elf_of bytes).symbols c.place_of_symbols-symbols.result) c.as_slice-file.ensures
+          (symbols_are_at c.as_slice-file.result.now c.deref-2.result.now c.place_of_symbols-symbols.result
           (c.deref-2.ensures.value ∙ c.requires.sections ∙ ap (λ bytes. (elf_of bytes).sections) (sym c.as_slice-file.ensures)) c.place_of_symbols-symbols.ensures);
       summary = search rules;
       count = search rules;

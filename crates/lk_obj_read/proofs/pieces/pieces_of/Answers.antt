@@ -1,7 +1,7 @@
 -- With every section looked at, the pieces are those of a file with any symbols.
 use Rattle.std.proofs.Common.{arith}
 use Rattle.lk_obj_parts.specs.ElfViews.{elf_from}
-use Rattle.lk_obj_read.proofs.PiecesTold.{pieces_done}
+use Rattle.lk_obj_read.proofs.PiecesReported.{pieces_done}
 use Rattle.lk_obj_read.proofs.pieces.pieces_of.Goals as goal
 
 pub returns : goal.returns

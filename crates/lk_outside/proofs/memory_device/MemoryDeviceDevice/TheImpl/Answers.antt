@@ -1,4 +1,4 @@
--- What the trait asks where the device tells its bytes is what is asked of a device in memory.
+-- What the trait asks where the device reports its bytes is what is asked of a device in memory.
 use Rattle.std.proofs.Common.{refl}
 use Rattle.lk_outside.proofs.memory_device.MemoryDeviceDevice.TheImpl.Goals as goal
 

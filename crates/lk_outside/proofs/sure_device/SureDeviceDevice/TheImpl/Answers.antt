@@ -1,4 +1,4 @@
--- What the trait asks where the device tells its bytes is what is asked of the device within.
+-- What the trait asks where the device reports its bytes is what is asked of the device within.
 use Rattle.std.proofs.Common.{refl}
 use Rattle.lk_outside.proofs.sure_device.SureDeviceDevice.TheImpl.Goals as goal
 

@@ -4,7 +4,7 @@ use Rattle.lk_symtab.specs.NameRows.{NameRow, row_with}
 use Rattle.lk_symtab.proofs.Entries.{kept_adds, written, written_again}
 use Rattle.lk_symtab.proofs.symbol_table.SymTab.add_again.Goals as goal
 
--- after want of memory the row is as it was
+-- after out of memory the row is as it was
 pub invariant_of-self : goal.invariant_of-self
 invariant_of-self c =
     rw (written_again c.self.inside.rows.entries c.args.n c.pair_mut-row.result.0.now c.pair_mut-row.result.1.now c.push.new.self c.pair_mut-row.ensures.value c.in_err-push.ensures.unchanged) c.self.invariant

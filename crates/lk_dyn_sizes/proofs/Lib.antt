@@ -1,0 +1,11 @@
+pub mod RowsChosen
+pub mod FillsCounted
+pub mod TextsStored
+pub mod StringsNoted
+pub mod EntriesCounted
+pub mod Seen
+pub mod NamesGiven
+pub mod FillsGiven
+pub mod StringsGiven
+pub mod SizesGiven
+pub mod PairsPut

@@ -1,4 +1,0 @@
-use Rattle.lk_filled.proofs.laws.lawful_placements_can_be_filled.Goals as goal
-
-pub returns : goal.returns
-returns c = λ r place size lawful inside short. record { fillable = lawful.fillable; inside = inside; short = short }

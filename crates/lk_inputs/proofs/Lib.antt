@@ -1,0 +1,15 @@
+pub mod CallsReported
+pub mod TurnsTaken
+pub mod CallsAsked
+pub mod KindsReported
+pub mod CandidatesJoined
+pub mod WordsSought
+pub mod PlacesAsked
+pub mod RowsTaken
+pub mod FilesAskedFor
+pub mod ItemsAdded
+pub mod InputsReported
+pub mod CommandsAsked
+pub mod AnswersReported
+pub mod PassesReported
+pub mod InputsMade

@@ -1,0 +1,257 @@
+-- What the passes tell one after another is what is reported of a command.
+use Rattle.std.proofs.Common.{◌≡◌, ◌<◌, ◌≤◌, refl, sym, ap, ◌∙◌, subst, arith, ℕ, nat_lt, Bool, true, false, List, [], ◌∷◌, length, map, Option, Some, None, Result, Ok, Err}
+use Rattle.std.specs.Prelude.{find, if◌then◌else◌}
+use Rattle.std.specs.List.{filter_map}
+use Rattle.std.proofs.lemmas.Bool.{le-ltb, ltb-false}
+use Rattle.std.proofs.Math.ListN.{length-map}
+use Rattle.lk_report.specs.FileMap.{FileMap}
+use Rattle.lk_report.specs.declared.faults.Fault.{Fault}
+use Rattle.lk_report.specs.declared.statuses.LimitKind.TheVariants as limit
+use Rattle.lk_report.specs.declared.statuses.Status.{Status}
+use Rattle.lk_report.specs.declared.statuses.Status.TheVariants as status
+use Rattle.lk_report.specs.declared.stamps.Stamp.{Stamp}
+use Rattle.lk_model.specs.declared.commands.Command.{Command}
+use Rattle.lk_model.specs.declared.commands.Word.{Word}
+use Rattle.lk_model.specs.declared.summaries.InputSummary.{InputSummary}
+use Rattle.lk_model.specs.Answers.{fault_status, input_faults, limit_fault, shared_waits, size_limit}
+use Rattle.lk_model.specs.Finding.{Found}
+use Rattle.lk_model.specs.Inputs.{input_words, inputs_of, is_there, missing_in, missing_of, path_of, places_of}
+use Rattle.lk_model.specs.Views.{Input}
+use Rattle.lk_resolve.specs.Settling.{SettleGives, ResolutionValue}
+use Rattle.lk_resolve.specs.declared.settle_faults.SettleFault.{SettleFault}
+use Rattle.lk_resolve.specs.declared.settle_faults.SettleFault.TheVariants as settle
+use Rattle.lk_inputs.specs.declared.input_files.InputFile.{InputFile}
+use Rattle.lk_inputs.specs.declared.input_names.InputName.{InputName}
+use Rattle.lk_inputs.specs.declared.input_words.InputWord.{InputWord}
+use Rattle.lk_inputs.specs.declared.inputs.Inputs.{Inputs}
+use Rattle.lk_inputs.specs.declared.look_ups.FoundFile.{FoundFile}
+use Rattle.lk_inputs.specs.declared.summaries.Judged.{Judged}
+use Rattle.lk_inputs.specs.declared.word_look_ups.Sought.{Sought}
+use Rattle.lk_inputs.specs.Adding.{summary_of}
+use Rattle.lk_inputs.specs.FilesRead.{AreJudged, NamedGive, NamedRefused, are_names_there, fault_in, files_at, files_refused, shared_wait, sizes_limit}
+use Rattle.lk_inputs.specs.FilesRead.{summary_of as summary_read}
+use Rattle.lk_inputs.specs.LookUps.{AreSought, FirstPlaceReported, LookUpsGive, SoughtGives, inputs_limit}
+use Rattle.lk_inputs.specs.Named.{files_of, named_in, names_in, words_seen}
+use Rattle.lk_inputs.specs.Refusals.{AreInputs, CommandInputs, InputsGive, IsRefusal, files_refusal, inputs_refusal}
+use Rattle.lk_inputs.specs.Resolves.{CommandResolves, InputsResolve, IsReported, IsFirstRefusal, SettlesAs, found_in, settle_status}
+use Rattle.lk_inputs.proofs.InputsReported.{all_sound, faults_are, files_are, names_are_there, names_one_by_one, shared_are, sizes_are, summaries_are}
+use Rattle.lk_inputs.proofs.WordsSought.{found_named}
+
+-- ---- one word
+
+pub word_found : (command : Command) (there : FileMap) (row : ℕ × Word) (places looked : List (List ℕ)) (o : Option FoundFile) (place : FoundFile) (name : InputName)
+    → places ≡ places_of command row.1 → looked ≡ places → FirstPlaceReported there looked (Ok o) → o ≡ Some place → name ≡ record { path = place.path; lib = row.0; mark = row.1.mark; stamp = place.stamp }
+    → named_in command there row ≡ Some name
+word_found command there row places looked None place name are same reported is named = absurd (cc)
+word_found command there row places looked (Some p) place name are same reported is named =
+    let the_same : p ≡ place = cc in
+    found_named command there row p.path p.stamp (ap (find (is_there there)) (sym are ∙ sym same) ∙ reported.0) reported.1
+    ∙ ap (λ (q : FoundFile). let n : InputName = record { path = q.path; lib = row.0; mark = row.1.mark; stamp = q.stamp } in Some n) the_same
+    ∙ ap (λ n. Some n) (sym named)
+
+pub word_missing : (command : Command) (there : FileMap) (row : ℕ × Word) (places looked : List (List ℕ)) (o : Option FoundFile) → places ≡ places_of command row.1 → looked ≡ places → FirstPlaceReported there looked (Ok o) → o ≡ None → path_of command there row.1 ≡ None
+unfolding path_of
+word_missing command there row places looked None are same reported is = ap (find (is_there there)) (sym are ∙ sym same) ∙ reported
+word_missing command there row places looked (Some p) are same reported is = absurd (cc)
+
+-- ---- all words
+
+pub few_rows : (command : Command) (rows : List InputWord) → words_seen rows ≡ input_words command → length rows ≤ 4096 → inputs_limit command ≡ None
+few_rows command rows are few =
+    let count : length (input_words command) ≡ length rows = ap (λ l. length l) (sym are) ∙ length-map rows _ in
+    ap (limit_fault limit.Inputs 4096) count
+    ∙ ap (λ b. let o : Option Status = if b then Some (status.Limit (record { which = limit.Inputs; number = length rows })) else None in o) (le-ltb 4096 (length rows) few)
+
+pub looked_up : (command : Command) (there : FileMap) (rows : List (ℕ × Word)) (sought : Sought) (result : Result (List InputName) Status) → rows ≡ input_words command → inputs_limit command ≡ None → AreSought command there rows sought → SoughtGives sought result → LookUpsGive command there result
+unfolding missing_of
+looked_up command there rows sought (Ok names) are few is gives = (
+  few,
+  ap (filter_map (missing_in command there)) (sym are) ∙ sym is.missing ∙ gives.0,
+  gives.1 ∙ is.names ∙ ap (filter_map (named_in command there)) are ∙ names_one_by_one command there (input_words command),
+)
+looked_up command there rows sought (Err (status.LinkError faults)) are few is gives =
+    (few, gives.0, gives.1 ∙ is.missing ∙ ap (filter_map (missing_in command there)) are)
+looked_up command there rows sought (Err (status.Done how)) are few is gives = absurd gives
+looked_up command there rows sought (Err (status.Usage u)) are few is gives = absurd gives
+looked_up command there rows sought (Err (status.ReadFault p)) are few is gives = absurd gives
+looked_up command there rows sought (Err status.DeviceFault) are few is gives = absurd gives
+looked_up command there rows sought (Err status.NoMemory) are few is gives = absurd gives
+looked_up command there rows sought (Err (status.Limit l)) are few is gives = absurd gives
+looked_up command there rows sought (Err (status.NotUpdated c)) are few is gives = absurd gives
+looked_up command there rows sought (Err (status.NotYet w)) are few is gives = absurd gives
+
+-- ---- what is read
+
+no_fault : (faults : List Fault) → false ≡ nat_lt 0 (length faults) → faults ≡ []
+no_fault [] h = refl
+no_fault (f ∷ fs) h =
+    let none : length (f ∷ fs) ≤ 0 = ltb-false 0 (length (f ∷ fs)) (sym h) in
+    absurd (omega arith)
+
+pub sound_reported : (files : List InputFile) (judged : Judged) (b : Bool) → AreJudged files judged → b ≡ nat_lt 0 (length judged.faults) → b ≡ false → (filter_map fault_in files ≡ []) × (judged.summaries ≡ map summary_read files)
+sound_reported files judged b is counted none =
+    let no_faults : filter_map fault_in files ≡ [] = sym is.faults ∙ no_fault judged.faults (sym none ∙ counted) in
+    (no_faults, is.summaries ∙ all_sound files no_faults)
+
+-- ---- all of a command
+
+-- why its files are refused is why its inputs are
+refused_are : (xs : List Input) → files_refusal xs ≡ files_refused (files_of xs)
+unfolding files_refusal
+refused_are xs =
+    λ i. elim (sizes_are 0 xs i) as (λ _. Option Status) [ Some s ↦ Some s | None ↦ elim (shared_are xs i) as (λ _. Option Status) [ Some s ↦ Some s | None ↦ fault_status (faults_are xs i) ] ]
+
+none_shared : (sizes shared : Option Status) (later : Option Status) → elim sizes as (λ _. Option Status) [ Some s ↦ Some s | None ↦ elim shared as (λ _. Option Status) [ Some s ↦ Some s | None ↦ later ] ] ≡ None → shared ≡ None
+none_shared (Some s) shared later h = absurd (cc)
+none_shared None (Some s) later h = absurd (cc)
+none_shared None None later h = refl
+
+no_wait : (xs : List Input) → files_refusal xs ≡ None → shared_waits xs ≡ None
+unfolding files_refusal
+no_wait xs h = none_shared (size_limit 0 xs) (shared_waits xs) (fault_status (input_faults xs)) h
+
+none_missing : (command : Command) (there : FileMap) → missing_of command there ≡ [] → inputs_refusal command there ≡ files_refusal (inputs_of command there)
+unfolding inputs_refusal
+none_missing command there h =
+    ap (λ (faults : List Fault). elim (fault_status faults) as (λ _. Option Status) [ Some s ↦ Some s | None ↦ files_refusal (inputs_of command there) ]) h
+
+named_refused : (command : Command) (there : FileMap) (s : Status) → inputs_refusal command there ≡ files_refused (files_at there (names_in command there)) → NamedRefused there (names_in command there) s → IsRefusal (inputs_refusal command there) s
+named_refused command there (status.Done how) same h = same ∙ h (names_are_there command there)
+named_refused command there (status.LinkError f) same h = same ∙ h (names_are_there command there)
+named_refused command there (status.Usage u) same h = same ∙ h (names_are_there command there)
+named_refused command there (status.ReadFault p) same h = tt
+named_refused command there status.DeviceFault same h = same ∙ h (names_are_there command there)
+named_refused command there status.NoMemory same h = tt
+named_refused command there (status.Limit l) same h = same ∙ h (names_are_there command there)
+named_refused command there (status.NotUpdated c) same h = same ∙ h (names_are_there command there)
+named_refused command there (status.NotYet w) same h = same ∙ h (names_are_there command there)
+
+named_reported : (command : Command) (there : FileMap) (result : Result Inputs Status) → missing_of command there ≡ [] → NamedGive there (names_in command there) result → InputsGive command there result
+named_reported command there (Ok inputs) none h =
+    let xs : List Input = inputs_of command there in
+    let files : files_at there (names_in command there) ≡ files_of xs = files_are command there in
+    let refused : files_refusal xs ≡ None = refused_are xs ∙ ap files_refused (sym files) ∙ h.0 in (
+      none_missing command there none ∙ refused,
+      record {
+        files = h.1 ∙ files;
+        summaries = h.2 ∙ ap (map summary_read) files ∙ summaries_are command there (no_wait xs refused);
+      },
+    )
+named_reported command there (Err s) none h =
+    named_refused command there s (none_missing command there none ∙ refused_are (inputs_of command there) ∙ ap files_refused (sym (files_are command there))) h
+
+pub command_reported : (command : Command) (there : FileMap) (names : List InputName) (result : Result Inputs Status) → LookUpsGive command there (Ok names) → NamedGive there names result → CommandInputs (inputs_limit command) command there result
+command_reported command there names result found given =
+    let P : Option Status → Type 0 = λ o. CommandInputs o command there result in
+    let Q : List InputName → Type 0 = λ ns. NamedGive there ns result in
+    subst P (sym found.0) (named_reported command there result found.1 (subst Q found.2 given))
+
+-- a look-up that is refused
+missing_refused : (command : Command) (there : FileMap) (faults : List Fault) → 0 < length faults → faults ≡ missing_of command there → inputs_refusal command there ≡ Some (status.LinkError faults)
+unfolding inputs_refusal
+missing_refused command there faults some are =
+    ap (λ (fs : List Fault). elim (fault_status fs) as (λ _. Option Status) [ Some s ↦ Some s | None ↦ files_refusal (inputs_of command there) ]) (sym are) ∙ by faults some
+  where
+    by : (fs : List Fault) → 0 < length fs → elim (fault_status fs) as (λ _. Option Status) [ Some s ↦ Some s | None ↦ files_refusal (inputs_of command there) ] ≡ Some (status.LinkError fs)
+    by [] h = absurd (omega arith)
+    by (f ∷ fs) h = refl
+
+pub look_up_refused : (command : Command) (there : FileMap) (s : Status) (result : Result Inputs Status) → LookUpsGive command there (Err s) → result ≡ Err s → CommandInputs (inputs_limit command) command there result
+look_up_refused command there s result given is =
+    let R : Result Inputs Status → Type 0 = λ r. CommandInputs (inputs_limit command) command there r in
+    subst R (sym is) (by s given)
+  where
+    at : (o : Option Status) → inputs_limit command ≡ o → (s : Status) → CommandInputs o command there (Err s) → CommandInputs (inputs_limit command) command there (Err s)
+    at o e s h = let P : Option Status → Type 0 = λ o. CommandInputs o command there (Err s) in subst P (sym e) h
+
+    by : (s : Status) → LookUpsGive command there (Err s) → CommandInputs (inputs_limit command) command there (Err s)
+    by (status.LinkError faults) h = at None h.0 (status.LinkError faults) (missing_refused command there faults h.1 h.2)
+    by (status.Limit l) h = at (Some (status.Limit l)) h (status.Limit l) refl
+    by (status.ReadFault p) h = at None h (status.ReadFault p) tt
+    by status.NoMemory h = any (inputs_limit command)
+      where
+        any : (o : Option Status) → CommandInputs o command there (Err status.NoMemory)
+        any None = tt
+        any (Some due) = tt
+    by (status.Done how) h = absurd h
+    by (status.Usage u) h = absurd h
+    by status.DeviceFault h = absurd h
+    by (status.NotUpdated c) h = absurd h
+    by (status.NotYet w) h = absurd h
+
+-- ---- what it resolves to
+
+refused_resolves : (command : Command) (there : FileMap) (due : Option Status) (s : Status) → IsRefusal due s → InputsResolve due command there (Err s)
+refused_resolves command there due (status.ReadFault p) h = any due
+  where
+    any : (o : Option Status) → InputsResolve o command there (Err (status.ReadFault p))
+    any None = tt
+    any (Some due) = tt
+refused_resolves command there due status.NoMemory h = any due
+  where
+    any : (o : Option Status) → InputsResolve o command there (Err status.NoMemory)
+    any None = tt
+    any (Some due) = tt
+refused_resolves command there due (status.Done how) h = subst (λ o. InputsResolve o command there (Err (status.Done how))) (sym h) refl
+refused_resolves command there due (status.LinkError f) h = subst (λ o. InputsResolve o command there (Err (status.LinkError f))) (sym h) refl
+refused_resolves command there due (status.Usage u) h = subst (λ o. InputsResolve o command there (Err (status.Usage u))) (sym h) refl
+refused_resolves command there due status.DeviceFault h = subst (λ o. InputsResolve o command there (Err status.DeviceFault)) (sym h) refl
+refused_resolves command there due (status.Limit l) h = subst (λ o. InputsResolve o command there (Err (status.Limit l))) (sym h) refl
+refused_resolves command there due (status.NotUpdated c) h = subst (λ o. InputsResolve o command there (Err (status.NotUpdated c))) (sym h) refl
+refused_resolves command there due (status.NotYet w) h = subst (λ o. InputsResolve o command there (Err (status.NotYet w))) (sym h) refl
+
+first_reported : (command : Command) (there : FileMap) (due s : Status) → CommandInputs (Some due) command there (Err s) → IsFirstRefusal due (Err s)
+first_reported command there due (status.Done how) h = h
+first_reported command there due (status.LinkError f) h = h
+first_reported command there due (status.Usage u) h = h
+first_reported command there due (status.ReadFault p) h = h
+first_reported command there due status.DeviceFault h = h
+first_reported command there due status.NoMemory h = tt
+first_reported command there due (status.Limit l) h = h
+first_reported command there due (status.NotUpdated c) h = h
+first_reported command there due (status.NotYet w) h = h
+
+refused_at : (command : Command) (there : FileMap) (o : Option Status) (s : Status) → CommandInputs o command there (Err s) → CommandResolves o command there (Err s)
+refused_at command there None s h = refused_resolves command there (inputs_refusal command there) s h
+refused_at command there (Some due) s h = first_reported command there due s h
+
+pub inputs_refused : (command : Command) (there : FileMap) (s : Status) (result : Result ResolutionValue Status) → CommandInputs (inputs_limit command) command there (Err s) → result ≡ Err s → CommandResolves (inputs_limit command) command there result
+inputs_refused command there s result h is =
+    let R : Result ResolutionValue Status → Type 0 = λ r. CommandResolves (inputs_limit command) command there r in
+    subst R (sym is) (refused_at command there (inputs_limit command) s h)
+
+-- what settling answers, as a status
+as_status : Result ResolutionValue SettleFault → Result ResolutionValue Status
+as_status (Ok resolution) = Ok resolution
+as_status (Err fault) = Err (settle_status fault)
+
+settles_as : (found : Found) (r : Result ResolutionValue SettleFault) → SettleGives found r → SettlesAs found (as_status r)
+unfolding as_status
+settles_as found (Ok resolution) h = h
+settles_as found (Err (settle.Faults faults)) h = h
+settles_as found (Err (settle.Limit l)) h = h
+settles_as found (Err settle.NoMemory) h = tt
+
+resolved_at : (command : Command) (there : FileMap) (o : Option Status) (inputs : Inputs) (r : Result ResolutionValue SettleFault) → CommandInputs o command there (Ok inputs)
+    → ((xs : List Input) → inputs.files ≡ files_of xs → inputs.summaries ≡ map summary_of xs → SettleGives (found_in command.options.entry xs) r)
+    → CommandResolves o command there (as_status r)
+resolved_at command there (Some due) inputs r h gives = absurd h
+resolved_at command there None inputs r h gives =
+    let P : Option Status → Type 0 = λ o. InputsResolve o command there (as_status r) in
+    subst P (sym h.0) (settles_as (found_in command.options.entry (inputs_of command there)) r (gives (inputs_of command there) h.1.files h.1.summaries))
+
+pub resolved : (command : Command) (there : FileMap) (inputs : Inputs) (r : Result ResolutionValue SettleFault) (resolution : ResolutionValue) → CommandInputs (inputs_limit command) command there (Ok inputs)
+    → ((xs : List Input) → inputs.files ≡ files_of xs → inputs.summaries ≡ map summary_of xs → SettleGives (found_in command.options.entry xs) r)
+    → r ≡ Ok resolution → CommandResolves (inputs_limit command) command there (Ok resolution)
+unfolding as_status
+resolved command there inputs r resolution h gives is =
+    let R : Result ResolutionValue Status → Type 0 = λ t. CommandResolves (inputs_limit command) command there t in
+    subst R (ap as_status is) (resolved_at command there (inputs_limit command) inputs r h gives)
+
+pub unresolved : (command : Command) (there : FileMap) (inputs : Inputs) (r : Result ResolutionValue SettleFault) (fault : SettleFault) (s : Status) → CommandInputs (inputs_limit command) command there (Ok inputs)
+    → ((xs : List Input) → inputs.files ≡ files_of xs → inputs.summaries ≡ map summary_of xs → SettleGives (found_in command.options.entry xs) r)
+    → r ≡ Err fault → s ≡ settle_status fault → CommandResolves (inputs_limit command) command there (Err s)
+unfolding as_status
+unresolved command there inputs r fault s h gives is reported =
+    let R : Result ResolutionValue Status → Type 0 = λ t. CommandResolves (inputs_limit command) command there t in
+    subst R (ap as_status is ∙ ap (λ t. Err t) (sym reported)) (resolved_at command there (inputs_limit command) inputs r h gives)

@@ -1,0 +1,66 @@
+use Rattle.std.proofs.Common.{rules, ◌≡◌, ◌≤◌, ◌^◌, ap, sym, ◌∙◌, arith, ◌++◌, ◌∷◌, [], length, map, Err}
+use Rattle.std.proofs.lemmas.Grind.{common_steps}
+use Rattle.std.proofs.lemmas.List.Elements.{All-push, All-same}
+use Rattle.std.proofs.lemmas.Result.{err_from_is_err_and}
+use Rattle.std.specs.Vec.Iter.{into_iter_items}
+use Rattle.lk_inputs.specs.declared.input_files.InputFile.{InputFile}
+use Rattle.lk_inputs.specs.Asked.{file_name, name_path}
+use Rattle.lk_inputs.specs.FileAnswers.{known_reads}
+use Rattle.lk_inputs.proofs.FilesAskedFor.{all_read, done, next_limit, next_there, put_files, put_names, put_reads, reads_ended, reads_named, reads_stopped, status_in_turn}
+use Rattle.lk_inputs.proofs.reading.read_inputs.Goals as goal
+
+pub returns-in_err-bytes-clause-asked : goal.returns-in_err-bytes-clause-asked
+returns-in_err-bytes-clause-asked g c =
+    let p = err_from_is_err_and c.from_residual.result c.from_residual.ensures.1 in
+    status_in_turn (known_reads (g.F.Files.state c.args.files.now)) (known_reads (g.F.Files.state c.read_file.new.files)) (map name_path c.args.names) p.0 c.from_residual.result p.1
+    (reads_stopped (known_reads (g.F.Files.state c.args.files.now)) (known_reads (g.F.Files.state c.loop-name.files)) (known_reads (g.F.Files.state c.read_file.new.files)) c.args.names (into_iter_items c.loop-name.name-iterator) (into_iter_items c.next.new.self) c.in-Some.name c.loop-name.inputs
+    c.in-Some.ensures.steps.0 c.loop-name.invariant.names c.loop-name.invariant.reads c.in_err-bytes.ensures.asked)
+
+pub returns-in_err-bytes-clause-named : goal.returns-in_err-bytes-clause-named
+returns-in_err-bytes-clause-named g c =
+    let p = err_from_is_err_and c.from_residual.result c.from_residual.ensures.1 in
+    reads_named c.args.names (into_iter_items c.loop-name.name-iterator) (into_iter_items c.next.new.self) c.in-Some.name c.loop-name.inputs _ c.from_residual.result
+    c.in-Some.ensures.steps.0 c.loop-name.invariant.names c.in_err-bytes.ensures.named (p.1 ∙ ap (λ s. Err s) p.2)
+
+pub returns-in-Err-clause-asked : goal.returns-in-Err-clause-asked
+returns-in-Err-clause-asked g c =
+    reads_ended (known_reads (g.F.Files.state c.args.files.now)) (known_reads (g.F.Files.state c.loop-name.files)) (known_reads (g.F.Files.state c.read_file.new.files)) c.args.names (into_iter_items c.loop-name.name-iterator) (into_iter_items c.next.new.self) c.in-Some.name c.loop-name.inputs
+    c.in-Some.ensures.steps.0 c.loop-name.invariant.names c.loop-name.invariant.reads c.in_ok-bytes.ensures.asked
+
+pub returns-then-is_err-clause-asked : goal.returns-then-is_err-clause-asked
+returns-then-is_err-clause-asked g c =
+    reads_ended (known_reads (g.F.Files.state c.args.files.now)) (known_reads (g.F.Files.state c.loop-name.files)) (known_reads (g.F.Files.state c.read_file.new.files)) c.args.names (into_iter_items c.loop-name.name-iterator) (into_iter_items c.next.new.self) c.in-Some.name c.loop-name.inputs
+    c.in-Some.ensures.steps.0 c.loop-name.invariant.names c.loop-name.invariant.reads c.in_ok-bytes.ensures.asked
+
+pub loop-name-preserved : goal.loop-name-preserved
+loop-name-preserved g c =
+    let left : into_iter_items c.loop-name.name-iterator ≡ c.in-Some.name ∷ into_iter_items c.next.new.self = c.in-Some.ensures.steps.0 in
+    let pushed : c.push.new.self ≡ c.loop-name.inputs ++ record { name = c.in-Some.name; bytes = c.in_ok-bytes.bytes } ∷ [] = done c.push.result _ (sym c.is_err.ensures.value ∙ c.if-is_err.false) c.push.ensures.pushed in
+    record {
+      kept = c.in_ok-bytes.ensures.kept ∙ c.loop-name.invariant.kept;
+      reads =
+          put_reads (known_reads (g.F.Files.state c.args.files.now)) (known_reads (g.F.Files.state c.loop-name.files)) (known_reads (g.F.Files.state c.read_file.new.files)) c.loop-name.inputs c.push.new.self c.in-Some.name c.in_ok-bytes.bytes
+          pushed c.loop-name.invariant.reads c.in_ok-bytes.ensures.asked;
+      inputs = λ there e.
+          put_files there c.args.names (into_iter_items c.loop-name.name-iterator) (into_iter_items c.next.new.self) c.loop-name.inputs c.push.new.self c.in-Some.name c.in_ok-bytes.bytes
+          left pushed (c.in_ok-bytes.ensures.reported there (c.loop-name.invariant.kept ∙ e)) (c.loop-name.invariant.inputs there e);
+      limit = λ there e.
+          next_limit there c.args.names (into_iter_items c.loop-name.name-iterator) (into_iter_items c.next.new.self) c.in-Some.name c.in_ok-bytes.bytes c.loop-name.total c.in-Ok.total
+          left (c.in_ok-bytes.ensures.reported there (c.loop-name.invariant.kept ∙ e)) (search rules) (search rules) (c.loop-name.invariant.limit there e);
+      all = λ there e.
+          next_there there c.args.names (into_iter_items c.loop-name.name-iterator) (into_iter_items c.next.new.self) c.in-Some.name c.in_ok-bytes.bytes
+          left (c.in_ok-bytes.ensures.reported there (c.loop-name.invariant.kept ∙ e)) (c.loop-name.invariant.all there e);
+      total = c.in-Ok.ensures.short;
+      short = All-same (λ (input : InputFile). length input.bytes ≤ 2 ^ 26) c.push.new.self (c.loop-name.inputs ++ record { name = c.in-Some.name; bytes = c.in_ok-bytes.bytes } ∷ []) pushed
+          (All-push (λ (input : InputFile). length input.bytes ≤ 2 ^ 26) c.loop-name.inputs (record { name = c.in-Some.name; bytes = c.in_ok-bytes.bytes }) c.loop-name.invariant.short (grind (arith, common_steps)));
+      unlooked = c.in_ok-bytes.ensures.unlooked ∙ c.loop-name.invariant.unlooked;
+      last = c.in_ok-bytes.ensures.last ∙ c.loop-name.invariant.last;
+      misses = c.in_ok-bytes.ensures.misses ∙ c.loop-name.invariant.misses;
+      names = put_names c.args.names (into_iter_items c.loop-name.name-iterator) (into_iter_items c.next.new.self) c.loop-name.inputs c.push.new.self c.in-Some.name c.in_ok-bytes.bytes left pushed c.loop-name.invariant.names;
+      faults = c.in_ok-bytes.ensures.faults ∙ c.loop-name.invariant.faults;
+    }
+
+pub returns-clause-asked : goal.returns-clause-asked
+returns-clause-asked g c =
+    let read : map file_name c.loop-name.inputs ≡ c.args.names = grind (arith, common_steps) in
+    all_read (known_reads (g.F.Files.state c.args.files.now)) (known_reads (g.F.Files.state c.loop-name.files)) c.args.names c.loop-name.inputs read c.loop-name.invariant.reads

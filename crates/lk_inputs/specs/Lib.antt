@@ -1,0 +1,11 @@
+pub mod Unread
+pub mod FileAnswers
+pub mod Candidates
+pub mod Named
+pub mod LookUps
+pub mod FilesRead
+pub mod Asked
+pub mod Adding
+pub mod Refusals
+pub mod Resolves
+pub mod AnswerLaws

@@ -1,0 +1,118 @@
+//! The inputs of a command: they are looked up, read, and read as objects.
+
+ghost use Rattle.std.specs.Prelude.{◌≡◌, ◌≤◌, ◌^◌, false, length, map, All, Contains, IsSome, Some, IfOk};
+ghost use Rattle.std.specs.List.{AllByRecursion};
+ghost use Rattle.lk_report.specs.FileMap.{FileMap};
+ghost use Rattle.lk_model.specs.Inputs.{input_words};
+ghost use Rattle.lk_inputs.specs.Asked.{AreSound, CommandAsked, FilesAsked, IsOfFiles, IsOfObjects, IsOfReading, LimitFirst, StatusLast, StatusMisses, StatusNamed, all_places, file_name, has_library, name_path, known_stats};
+ghost use Rattle.lk_inputs.specs.FilesRead.{NamedGive, ObjectsGive, WaitGives};
+ghost use Rattle.lk_inputs.specs.Named.{file_path};
+ghost use Rattle.lk_inputs.specs.LookUps.{inputs_limit};
+ghost use Rattle.lk_inputs.specs.Refusals.{CommandInputs};
+ghost use Rattle.lk_inputs.specs.FileAnswers.{StatusCounts, known_map, known_reads, reads_with};
+
+use crate::input_files::{InputFile, InputFileList};
+use crate::input_names::InputNameList;
+use crate::reading::read_inputs;
+use crate::shared_inputs::first_shared;
+use crate::summaries::read_summaries;
+use crate::word_look_ups::look_up_inputs;
+use lk_model::commands::Command;
+use lk_model::summaries::SummaryList;
+use lk_outside::Files;
+use lk_report::{NoMemory, Status, Waiting};
+use std::alloc::Global;
+
+/// The inputs of a command, by number: their files, and what a link keeps of each.
+#[derive(Drop)]
+pub struct Inputs {
+    pub files: InputFileList,
+    pub summaries: SummaryList,
+}
+
+/// Why inputs wait: one of them is a shared object.
+fn shared_wait(alloc: Global, files: &[InputFile]) -> Result<(), Status>
+    ensures { WaitGives files.now result }
+{
+    match first_shared(alloc, files) {
+        Ok(None) => Ok(()),
+        Ok(Some(path)) => Err(Status::NotYet(Waiting::Form { path })),
+        Err(NoMemory) => Err(Status::NoMemory),
+    }
+}
+
+/// What a link keeps of files, none of which may be a shared object.
+#[tactic(auto, using(crate::proofs::KindsReported::objects_kinds))]
+fn objects_of(alloc: Global, files: &[InputFile]) -> Result<SummaryList, Status>
+    requires { All (λ file. length file.bytes ≤ 2 ^ 26) files.now }
+    ensures reported { ObjectsGive files.now result }
+    ensures kinds { IsOfObjects result }
+{
+    shared_wait(alloc, files)?;
+    read_summaries(alloc, files)
+}
+
+/// Inputs whose files are there, each read once.
+///
+/// # Errors
+/// As soon as it is met: a read that failed, a file that went away, a limit on sizes; then a shared input; then
+/// all faults of inputs. Out of memory at any place.
+fn read_named<F: Files>(
+    alloc: Global,
+    names: InputNameList,
+    files: &mut F,
+) -> Result<Inputs, Status>
+    ensures kept { known_map (F.state files.new) ≡ known_map (F.state files.old) }
+    ensures reads { IfOk result (λ inputs. known_reads (F.state files.new) ≡ reads_with (map file_path inputs.files) (known_reads (F.state files.old))) }
+    ensures reported { (there : FileMap) → known_map (F.state files.old) ≡ Some there → NamedGive there names result }
+    ensures faults { StatusCounts (F.state files.old) result (F.state files.new) }
+    ensures alike { IfOk result (λ inputs. length inputs.files ≡ length inputs.summaries) }
+    ensures short { IfOk result (λ inputs. All (λ file. length file.bytes ≤ 2 ^ 26) inputs.files) }
+    ensures asked { FilesAsked (known_reads (F.state files.old)) (map name_path names) result (known_reads (F.state files.new)) }
+    ensures unlooked { known_stats (F.state files.new) ≡ known_stats (F.state files.old) }
+    ensures last { StatusLast (F.state files.old) result (F.state files.new) }
+    ensures misses { StatusMisses (F.state files.old) result (F.state files.new) }
+    ensures named { StatusNamed (map name_path names) result }
+    ensures kinds { IsOfFiles result }
+    ensures sound { IfOk result AreSound }
+    ensures names { IfOk result (λ inputs. map file_name inputs.files ≡ names) }
+{
+    let inputs = read_inputs(alloc, names, files)?;
+    let summaries = objects_of(alloc, inputs.as_slice())?;
+    Ok(Inputs {
+        files: inputs,
+        summaries,
+    })
+}
+
+/// The inputs of a command, each looked up and then read once.
+///
+/// # Errors
+/// The first of these: more inputs than 4,096; a look-up that failed; all inputs that are not there; a read
+/// that failed, a file that went away, or a limit on sizes, as soon as it is met; a shared input, which
+/// links do not read yet; all faults of inputs, in command order. Out of memory at any place.
+pub fn read_command<F: Files>(
+    alloc: Global,
+    command: &Command,
+    files: &mut F,
+) -> Result<Inputs, Status>
+    ensures kept { known_map (F.state files.new) ≡ known_map (F.state files.old) }
+    ensures reads { IfOk result (λ inputs. known_reads (F.state files.new) ≡ reads_with (map file_path inputs.files) (known_reads (F.state files.old))) }
+    ensures reported { (there : FileMap) → known_map (F.state files.old) ≡ Some there → CommandInputs (inputs_limit command.now) command.now there result }
+    ensures faults { StatusCounts (F.state files.old) result (F.state files.new) }
+    ensures limit { IsSome (inputs_limit command.now) → F.state files.new ≡ F.state files.old }
+    ensures alike { IfOk result (λ inputs. length inputs.files ≡ length inputs.summaries) }
+    ensures short { IfOk result (λ inputs. All (λ file. length file.bytes ≤ 2 ^ 26) inputs.files) }
+    ensures asked { (there : FileMap) → known_map (F.state files.old) ≡ Some there → CommandAsked command.now there (F.state files.old) result (F.state files.new) }
+    ensures last { StatusLast (F.state files.old) result (F.state files.new) }
+    ensures misses { has_library (input_words command.now) ≡ false → StatusMisses (F.state files.old) result (F.state files.new) }
+    ensures named { StatusNamed (all_places command.now) result }
+    ensures kinds { IsOfReading command.now result }
+    ensures first { LimitFirst (inputs_limit command.now) result }
+    ensures sound { IfOk result AreSound }
+    ensures placed { IfOk result (λ inputs. AllByRecursion (λ file. Contains (all_places command.now) file.name.path) inputs.files) }
+    ensures few { IfOk result (λ inputs. length inputs.files ≤ 4096) }
+{
+    let names = look_up_inputs(alloc, command, files)?;
+    read_named(alloc, names, files)
+}

@@ -1,0 +1,43 @@
+//! From the words of a link to what its inputs decide: the passes over all inputs that come before any
+//! relocation is looked at.
+//!
+//! Words and files come in; out comes a `Resolution` of the added inputs, or the status that the link has in
+//! its place. The passes, in their order: the words become a command (`command_of`, by lk_command); each input
+//! is looked up (`look_up_inputs`) and read once (`read_inputs`), up to the limits on their number and sizes;
+//! shared objects are reported as not built yet (`first_shared`); what a link keeps of each object is read, or all
+//! faults are reported (`read_summaries`); the inputs are added in command order, lib groups by search
+//! (`add_inputs`), and resolved (`resolve_inputs`). `read_command`, `resolve_command` and `resolve_words` put
+//! these together.
+//!
+//! Contracts cite lk_model: `inputs_of` and `missing_of` of the command and the map of the files, where these
+//! tell it, and `added_inputs` of any inputs. Callers rely on one law: files and summaries that are those of
+//! some inputs settle to `found_of` exactly the added ones of these.
+#![tactic(auto)]
+
+mod adding;
+mod input_files;
+mod input_names;
+mod input_words;
+mod inputs;
+mod laws;
+mod look_ups;
+mod places;
+mod reading;
+mod resolving;
+mod shared_inputs;
+mod summaries;
+mod unread;
+mod word_look_ups;
+mod words;
+
+pub use adding::add_inputs;
+pub use input_files::{InputFile, InputFileList};
+pub use input_names::{InputName, InputNameList};
+pub use inputs::{Inputs, read_command};
+pub use laws::answers_are_the_models;
+pub use reading::read_inputs;
+pub use resolving::resolve_inputs;
+pub use shared_inputs::first_shared;
+pub use summaries::read_summaries;
+pub use word_look_ups::look_up_inputs;
+pub use words::{command_of, resolve_command, resolve_words};

@@ -1,0 +1,147 @@
+//! Reading the files of inputs, each once and whole, up to the limits on their sizes.
+
+ghost use Rattle.std.specs.Prelude.{◌≡◌, ◌≤◌, ◌^◌, ◌+◌, ◌∷◌, [], length, map, All, Some, IfErr, IfOk, OnOk};
+ghost use Rattle.lk_report.specs.FileMap.{FileMap};
+ghost use Rattle.lk_inputs.specs.Asked.{AskedInTurn, IsOfReads, ReadAsked, ReadLast, ReadMisses, StatusLast, StatusMisses, StatusNamed, file_name, name_path, known_stats};
+ghost use Rattle.lk_inputs.specs.Named.{file_path};
+ghost use Rattle.lk_inputs.specs.FilesRead.{ContentReported, IsGone, ReadsGive, SizeGives};
+ghost use Rattle.lk_inputs.specs.FileAnswers.{ReadCounts, ReadNoted, ReadReported, StatusCounts, known_map, known_reads, reads_with};
+
+use crate::input_files::{InputFile, InputFileList};
+use crate::input_names::InputNameList;
+use crate::look_ups::failed_at;
+use crate::unread::status_of;
+use lk_outside::{Files, ReadAnswer};
+use lk_report::{Bytes, Fault, FaultList, LimitFault, LimitKind, List, Name, NoMemory, Status};
+use std::alloc::Global;
+
+/// A file may have so many bytes: 64 MiB.
+const MOST_BYTES: u64 = 0x400_0000;
+
+/// All files together may have so many bytes: 1 GiB.
+const MOST_TOTAL: u64 = 0x4000_0000;
+
+/// The bytes that are read with one more file of this length.
+///
+/// # Errors
+/// The limit that is exceeded.
+fn total_with(before: u64, length: u64) -> Result<u64, LimitFault>
+    requires { before ≤ 2 ^ 30 }
+    ensures total { SizeGives before length result }
+    ensures short { IfOk result (λ total. total ≤ 2 ^ 30) }
+    ensures each { OnOk result (length ≤ 2 ^ 26) }
+    ensures sizes { IfErr result (λ l. l.which ≡ LimitKind.Inputs → ⊥) }
+{
+    if length > MOST_BYTES {
+        return Err(LimitFault {
+            which: LimitKind::InputSize,
+            number: length,
+        });
+    }
+    let total = before + length;
+    if total > MOST_TOTAL {
+        return Err(LimitFault {
+            which: LimitKind::InputTotal,
+            number: total,
+        });
+    }
+    Ok(total)
+}
+
+/// The one fault of a file that went away.
+fn gone(alloc: Global, path: &Name) -> Result<FaultList, NoMemory>
+    ensures { IfOk result (λ faults. faults ≡ Fault.Missing path.now ∷ []) }
+{
+    let path = path.copy(alloc)?;
+    let mut faults = List::new(alloc);
+    faults.push(Fault::Missing { path })?;
+    Ok(faults)
+}
+
+/// What is reported of a file that went away.
+fn gone_status(alloc: Global, path: &Name) -> Status
+    ensures { IsGone path.now result }
+{
+    match gone(alloc, path) {
+        Ok(faults) => Status::LinkError(faults),
+        Err(NoMemory) => Status::NoMemory,
+    }
+}
+
+/// Reads the file of a path.
+#[tactic(auto, using(crate::proofs::CallsReported::read_keeps, crate::proofs::CallsReported::read_noted_as, crate::proofs::CallsReported::read_reports, crate::proofs::CallsReported::read_counts, crate::proofs::CallsAsked::read_asked, crate::proofs::CallsAsked::read_unlooked, crate::proofs::CallsAsked::read_last, crate::proofs::CallsAsked::read_misses))]
+fn read<F: Files>(files: &mut F, path: &Name) -> ReadAnswer
+    ensures kept { known_map (F.state files.new) ≡ known_map (F.state files.old) }
+    ensures noted { ReadNoted (F.state files.old) path.now result (F.state files.new) }
+    ensures reported { (there : FileMap) → known_map (F.state files.old) ≡ Some there → ReadReported there path.now result }
+    ensures faults { ReadCounts (F.state files.old) path.now result (F.state files.new) }
+    ensures asked { ReadAsked (known_reads (F.state files.old)) path.now result (known_reads (F.state files.new)) }
+    ensures unlooked { known_stats (F.state files.new) ≡ known_stats (F.state files.old) }
+    ensures last { ReadLast (F.state files.old) result (F.state files.new) }
+    ensures misses { ReadMisses (F.state files.old) result (F.state files.new) }
+{
+    files.read(path)
+}
+
+/// The bytes of the file of a path.
+///
+/// # Errors
+/// A read that failed; a file that went away since it was looked up; out of memory.
+fn read_file<F: Files>(alloc: Global, path: &Name, files: &mut F) -> Result<Bytes, Status>
+    ensures kept { known_map (F.state files.new) ≡ known_map (F.state files.old) }
+    ensures noted { OnOk result (known_reads (F.state files.new) ≡ reads_with (path.now ∷ []) (known_reads (F.state files.old))) }
+    ensures reported { (there : FileMap) → known_map (F.state files.old) ≡ Some there → ContentReported there path.now result }
+    ensures faults { StatusCounts (F.state files.old) result (F.state files.new) }
+    ensures asked { AskedInTurn (known_reads (F.state files.old)) (path.now ∷ []) result (known_reads (F.state files.new)) }
+    ensures unlooked { known_stats (F.state files.new) ≡ known_stats (F.state files.old) }
+    ensures last { StatusLast (F.state files.old) result (F.state files.new) }
+    ensures misses { StatusMisses (F.state files.old) result (F.state files.new) }
+    ensures named { StatusNamed (path.now ∷ []) result }
+    ensures kinds { IsOfReads result }
+{
+    match read(files, path) {
+        ReadAnswer::Got(bytes) => Ok(bytes),
+        ReadAnswer::Absent => Err(gone_status(alloc, path)),
+        ReadAnswer::Failed => Err(status_of(failed_at(alloc, path))),
+        ReadAnswer::NoMemory => Err(Status::NoMemory),
+    }
+}
+
+/// Reads the files of inputs in command order, each once.
+///
+/// # Errors
+/// As soon as it is met: a read that failed; a file that went away since it was looked up; a file of more
+/// than 64 MiB, or files of more than 1 GiB together; out of memory.
+#[tactic(auto, using(crate::proofs::CallsReported::reads_none, crate::proofs::CallsReported::reads_more))]
+pub fn read_inputs<F: Files>(
+    alloc: Global,
+    names: InputNameList,
+    files: &mut F,
+) -> Result<InputFileList, Status>
+    ensures kept { known_map (F.state files.new) ≡ known_map (F.state files.old) }
+    ensures reads { IfOk result (λ inputs. known_reads (F.state files.new) ≡ reads_with (map file_path inputs) (known_reads (F.state files.old))) }
+    ensures reported { (there : FileMap) → known_map (F.state files.old) ≡ Some there → ReadsGive there names result }
+    ensures faults { StatusCounts (F.state files.old) result (F.state files.new) }
+    ensures asked { AskedInTurn (known_reads (F.state files.old)) (map name_path names) result (known_reads (F.state files.new)) }
+    ensures unlooked { known_stats (F.state files.new) ≡ known_stats (F.state files.old) }
+    ensures last { StatusLast (F.state files.old) result (F.state files.new) }
+    ensures misses { StatusMisses (F.state files.old) result (F.state files.new) }
+    ensures named { StatusNamed (map name_path names) result }
+    ensures kinds { IsOfReads result }
+    ensures names { IfOk result (λ inputs. map file_name inputs ≡ names) }
+    ensures short { IfOk result (λ inputs. All (λ input. length input.bytes ≤ 2 ^ 26) inputs) }
+{
+    let mut inputs = List::new(alloc);
+    let mut total = 0;
+    for name in names.into_vec() {
+        let bytes = read_file(alloc, &name.path, files)?;
+        total = match total_with(total, bytes.as_slice().len() as u64) {
+            Ok(total) => total,
+            Err(limit) => return Err(Status::Limit(limit)),
+        };
+        if inputs.push(InputFile { name, bytes }).is_err() {
+            return Err(Status::NoMemory);
+        }
+    }
+    Ok(inputs)
+}

@@ -1,5 +1,0 @@
-use Rattle.lk_passes.proofs.KindsTold.{summaries_kinds}
-use Rattle.lk_passes.proofs.inputs.objects_of.Goals as goal
-
-pub returns-clause-kinds : goal.returns-clause-kinds
-returns-clause-kinds c = summaries_kinds c.args.files.now c.read_summaries.result c.read_summaries.ensures

@@ -1,5 +1,0 @@
-use Rattle.lk_recorded.proofs.CommandInputs.{inputs-of-commands-fit}
-use Rattle.lk_recorded.proofs.laws.inputs_of_commands_fit.Goals as goal
-
-pub returns : goal.returns
-returns c = inputs-of-commands-fit

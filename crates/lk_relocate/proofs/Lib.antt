@@ -1,0 +1,16 @@
+pub mod Lists
+pub mod Widths
+pub mod Items
+pub mod MarksReported
+pub mod NumbersReported
+pub mod SymbolNumbersReported
+pub mod TablesReported
+pub mod FieldsReported
+pub mod PiecesOfObjects
+pub mod ReferencesOnce
+pub mod KeptInObject
+pub mod PlacesReported
+pub mod PlacedPieces
+pub mod PiecePut
+pub mod AllWritten
+pub mod LinkReported

@@ -1,0 +1,10 @@
+pub mod PieceLists
+pub mod References
+pub mod Written
+pub mod ObjectsOfInputs
+pub mod Links
+pub mod NumbersOfSymbols
+pub mod ObjectTables
+pub mod Fields
+pub mod Faults
+pub mod Places

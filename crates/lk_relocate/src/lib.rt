@@ -1,0 +1,27 @@
+//! The linked bytes of pieces: each kept section is copied from its object to its place in the file, and the value
+//! of each of its relocations is written into its field (gABI "Relocation"; psABI x86-64 "Relocation Types").
+//!
+//! The objects of a link come in, what its inputs decide (`Resolution`), the values of symbols (`Values`), a
+//! placement, which may be a full one or that of an update, and the bytes of the file. `link_pieces` goes over the
+//! placed pieces once, in their order, and reports every value that does not fit its field.
+//!
+//! The contract cites lk_model, wherever the arguments are those of a link (`IsLinked` of specs/Links.antt): the
+//! faults are those that `overflow_faults` lists, and where there are none, the stretches of the kept pieces
+//! (`piece_stretches` of specs/Written.antt) are written into the file, one after another. Callers rely on one law:
+//! a file without faults has the linked bytes of every piece, and no other byte is changed. Where a section
+//! begins is looked up once for the section, the value of a symbol once for the object, on its first use; a relocation
+//! that fits is neither looked up by hash nor allocated for.
+#![tactic(auto)]
+
+mod field_filling;
+mod growing;
+mod linking;
+mod object_sections;
+mod object_tables;
+mod piece_marks;
+mod piece_places;
+mod relocations;
+mod section_linking;
+mod numbers_of_symbols;
+
+pub use linking::link_pieces;

@@ -1,0 +1,107 @@
+//! The value of the symbols of an object to its relocations, by the numbers of the symbols (gABI "Symbol Table"):
+//! each is found once, on its first use, whatever the number of relocations through it.
+
+ghost use Rattle.std.specs.Prelude.{◌≡◌, ℕ, ◌==◌, cond, Some, OnOk};
+ghost use Rattle.lk_model.specs.References.{number_of_name};
+ghost use Rattle.lk_symtab.specs.NameRows.{all_symbols};
+ghost use Rattle.lk_relocate.specs.NumbersOfSymbols.{AreNumbersOf, AreNumbersAt, symbol_numbers_at};
+
+use crate::growing::make_room;
+use crate::relocations::symbol_of;
+use lk_elf::Rela;
+use lk_obj_read::Object;
+use lk_report::{Name, NoMemory};
+use lk_symtab::SymTab;
+use lk_symbol_values::{SymbolNumbers, Values};
+
+/// The values of symbols, by number, as far as they were asked for.
+pub(crate) type NumbersOfSymbols = Vec<Option<SymbolNumbers>>;
+
+/// What is known of a symbol.
+pub(crate) fn symbol_numbers_at(numbers_by_symbol: &NumbersOfSymbols, symbol: u32) -> Option<SymbolNumbers>
+    ensures { result ≡ symbol_numbers_at numbers_by_symbol.now.items symbol }
+{
+    numbers_by_symbol.get(symbol as usize).copied().unwrap_or(None)
+}
+
+/// Notes the value of a symbol.
+fn note_numbers(numbers_by_symbol: &mut NumbersOfSymbols, symbol: u32, symbol_numbers: SymbolNumbers) -> Result<(), NoMemory>
+    ensures { OnOk result ((k : ℕ) → symbol_numbers_at numbers_by_symbol.new.items k ≡ cond (k == symbol) (Some symbol_numbers) (symbol_numbers_at numbers_by_symbol.old.items k)) }
+{
+    make_room(numbers_by_symbol, symbol, None)?;
+    numbers_by_symbol[symbol as usize] = Some(symbol_numbers);
+    Ok(())
+}
+
+/// The number of a name, or how many names there are.
+#[tactic(auto, using(lk_scan::proofs::NamesSeen::number_reported))]
+fn number_of(names: &SymTab, name: &Name) -> u32
+    ensures { result ≡ number_of_name (all_symbols names.now) name.now }
+{
+    names.find(name).unwrap_or(names.len())
+}
+
+/// The number of a name among those that values are known of.
+fn name_number(values: &Values<'_>, name: &Name) -> u32
+    ensures { result ≡ number_of_name (all_symbols values.now.resolution.rows) name.now }
+{
+    number_of(values.resolution().names(), name)
+}
+
+/// The value of a symbol of an object, which is the input with this number: a name is looked up by its text, and a
+/// LOCAL symbol is read of the object.
+pub(crate) fn find_numbers(
+    values: &Values<'_>,
+    object: &Object,
+    input: u32,
+    symbol: u32,
+) -> SymbolNumbers
+    ensures { AreNumbersAt values.now input object.now symbol result }
+{
+    match values.global(input, symbol) {
+        Some(global) => {
+            let name = name_number(values, &global.name);
+            values.name_numbers(name)
+        }
+        None => {
+            let local = object.local(symbol);
+            values.local_numbers(input, symbol, &local)
+        }
+    }
+}
+
+/// Learns the value of a symbol, unless it is known.
+fn learn_symbol(
+    numbers_by_symbol: &mut NumbersOfSymbols,
+    values: &Values<'_>,
+    object: &Object,
+    input: u32,
+    symbol: u32,
+) -> Result<(), NoMemory>
+    requires { AreNumbersOf values.now input object.now numbers_by_symbol.old.items }
+    ensures { OnOk result (AreNumbersOf values.now input object.now numbers_by_symbol.new.items) }
+{
+    if symbol_numbers_at(numbers_by_symbol, symbol).is_some() {
+        return Ok(());
+    }
+    let symbol_numbers = find_numbers(values, object, input, symbol);
+    note_numbers(numbers_by_symbol, symbol, symbol_numbers)?;
+    Ok(())
+}
+
+/// Learns the value of the symbols of these relocations.
+pub(crate) fn learn_symbols(
+    numbers_by_symbol: &mut NumbersOfSymbols,
+    values: &Values<'_>,
+    object: &Object,
+    input: u32,
+    relas: &[Rela],
+) -> Result<(), NoMemory>
+    requires { AreNumbersOf values.now input object.now numbers_by_symbol.old.items }
+    ensures { OnOk result (AreNumbersOf values.now input object.now numbers_by_symbol.new.items) }
+{
+    for rela in relas {
+        learn_symbol(numbers_by_symbol, values, object, input, symbol_of(rela))?;
+    }
+    Ok(())
+}

@@ -1,0 +1,120 @@
+//! The tables of the object whose pieces are linked: which sections are its pieces, and the value of its symbols.
+//! The pieces of an object are together, so that the tables are made once for all of them, and the same lists serve
+//! one object after another.
+
+ghost use Rattle.std.specs.Prelude.{◌≡◌, ℕ, List, Option, Some, IsTrue, OnOk};
+ghost use Rattle.std.specs.Option.{option_copied};
+ghost use Rattle.lk_symbol_values.specs.SymbolNumbering.{ValueInputs};
+ghost use Rattle.lk_relocate.specs.ObjectsOfInputs.{object_in};
+ghost use Rattle.lk_relocate.specs.ObjectTables.{AreCurrent, AreTablesOf};
+
+use crate::piece_marks::{PieceMarks, is_marked, mark_pieces};
+use crate::numbers_of_symbols::{NumbersOfSymbols, learn_symbols};
+use lk_obj_read::Object;
+use lk_report::NoMemory;
+use lk_symbol_values::Values;
+use std::alloc::Global;
+
+/// The tables of one object.
+#[derive(Drop)]
+pub(crate) struct ObjectTables {
+    /// The number of the input that it is; none before the first one.
+    pub(crate) input: Option<u32>,
+    /// The value of its symbols, as far as its relocations asked for them.
+    pub(crate) numbers_by_symbol: NumbersOfSymbols,
+    /// Which of its sections are its pieces.
+    pub(crate) marks: PieceMarks,
+}
+
+/// The object that an input is, where there is one.
+pub(crate) fn object_at(objects: &[Option<Object>], input: u32) -> Option<&Object>
+    ensures { option_copied result ≡ object_in objects.now input }
+{
+    match objects.get(input as usize) {
+        Some(Some(object)) => Some(object),
+        Some(None) => None,
+        None => None,
+    }
+}
+
+impl ObjectTables {
+    /// The tables of no object.
+    pub(crate) fn none(alloc: Global) -> Self
+        ensures { (known : ValueInputs) (objects : List (Option (List ℕ))) → AreCurrent known objects result.input result.numbers_by_symbol.items result.marks.items }
+    {
+        ObjectTables {
+            input: None,
+            numbers_by_symbol: Vec::new(alloc),
+            marks: Vec::new(alloc),
+        }
+    }
+
+    /// Whether they are those of the object of this input.
+    fn is_at(&self, input: u32) -> bool
+        ensures { IsTrue result → self.now.input ≡ Some input }
+    {
+        match self.input {
+            Some(at) => at == input,
+            None => false,
+        }
+    }
+
+    /// Turns to an object, which is the input with this number, unless it is the one already.
+    fn turn_to(&mut self, values: &Values<'_>, object: &Object, input: u32) -> Result<(), NoMemory>
+        requires { self.old.input ≡ Some input → AreTablesOf values.now input object.now self.old.numbers_by_symbol.items self.old.marks.items }
+        ensures tables { OnOk result (AreTablesOf values.now input object.now self.new.numbers_by_symbol.items self.new.marks.items) }
+        ensures at { OnOk result (self.new.input ≡ Some input) }
+    {
+        if self.is_at(input) {
+            return Ok(());
+        }
+        self.numbers_by_symbol.clear();
+        mark_pieces(&mut self.marks, object.summary().pieces.as_slice())?;
+        self.input = Some(input);
+        Ok(())
+    }
+
+    /// Learns what the symbols of the relocations of a section of the object have the values, where it is a piece.
+    fn learn(
+        &mut self,
+        values: &Values<'_>,
+        object: &Object,
+        input: u32,
+        section: u32,
+    ) -> Result<(), NoMemory>
+        requires { AreTablesOf values.now input object.now self.old.numbers_by_symbol.items self.old.marks.items }
+        ensures tables { OnOk result (AreTablesOf values.now input object.now self.new.numbers_by_symbol.items self.new.marks.items) }
+        ensures at { self.new.input ≡ self.old.input }
+    {
+        if is_marked(&self.marks, section) {
+            let relas = object.relocations(section).as_slice();
+            learn_symbols(&mut self.numbers_by_symbol, values, object, input, relas)?;
+            Ok(())
+        } else {
+            Ok(())
+        }
+    }
+
+    /// Gets ready for a section of an input: turns to its object, and learns what the symbols of its relocations are
+    /// value. Stays where there is no object.
+    pub(crate) fn get_ready(
+        &mut self,
+        values: &Values<'_>,
+        objects: &[Option<Object>],
+        input: u32,
+        section: u32,
+    ) -> Result<(), NoMemory>
+        requires { AreCurrent values.now objects.now self.old.input self.old.numbers_by_symbol.items self.old.marks.items }
+        ensures current { OnOk result (AreCurrent values.now objects.now self.new.input self.new.numbers_by_symbol.items self.new.marks.items) }
+        ensures turned { (bytes : List ℕ) → object_in objects.now input ≡ Some bytes → OnOk result (AreTablesOf values.now input bytes self.new.numbers_by_symbol.items self.new.marks.items) }
+    {
+        match object_at(objects, input) {
+            None => Ok(()),
+            Some(object) => {
+                self.turn_to(values, object, input)?;
+                self.learn(values, object, input, section)?;
+                Ok(())
+            }
+        }
+    }
+}

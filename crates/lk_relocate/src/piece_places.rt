@@ -1,0 +1,57 @@
+//! Where the bytes of a piece are in the file (this project's own).
+
+ghost use Rattle.std.specs.Prelude.{◌≡◌};
+ghost use Rattle.lk_model.specs.SectionKeys.{in_file};
+ghost use Rattle.lk_relocate.specs.Places.{place_in, place_with};
+
+use lk_model::layouts::{Class, PieceRow, Placement, SectionRow};
+
+/// Whether the file holds the bytes of a section of this class.
+fn in_file(class: Class) -> bool
+    ensures { result ≡ in_file class }
+{
+    match class {
+        Class::R | Class::X | Class::W | Class::WX | Class::Tdata | Class::N => true,
+        Class::Tbss | Class::Bss => false,
+    }
+}
+
+/// The place of a piece of a row in a file of `size` bytes, where `count` bytes of it lie there; none where these
+/// are more than the piece has.
+fn place_with(size: usize, row: &SectionRow, piece: &PieceRow, count: usize) -> Option<usize>
+    ensures { result ≡ place_with size row.now piece.now count }
+{
+    if count as u64 > piece.size {
+        return None;
+    }
+    let offset = piece.addr.checked_sub(row.addr)?;
+    let at = row.offset.checked_add(offset)?;
+    let end = at.checked_add(count as u64)?;
+    if end <= size as u64 {
+        Some(at as usize)
+    } else {
+        None
+    }
+}
+
+/// The place in a file of `size` bytes at which `count` bytes of a piece begin; none where the file does not hold
+/// the section of the piece, where they are more than the piece has, or where they do not lie in the file.
+pub(crate) fn place_in(
+    placement: &Placement,
+    size: usize,
+    piece: &PieceRow,
+    count: usize,
+) -> Option<usize>
+    ensures { result ≡ place_in placement.now size piece.now count }
+{
+    match placement.sections.as_slice().get(piece.section as usize) {
+        None => None,
+        Some(row) => {
+            if in_file(row.key.class) {
+                place_with(size, row, piece, count)
+            } else {
+                None
+            }
+        }
+    }
+}

@@ -1,0 +1,16 @@
+pub mod SlotKeys
+pub mod Segments
+pub mod Placed
+pub mod SymbolsRise
+pub mod Bounds
+pub mod NamesValued
+pub mod ValuesFound
+pub mod MadeGiven
+pub mod ValuesGiven
+pub mod NumbersReported
+pub mod LowNumbers
+pub mod Lists
+pub mod Ends
+pub mod ImportsShared
+pub mod ValuesExact
+pub mod Places

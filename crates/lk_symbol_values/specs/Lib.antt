@@ -1,0 +1,10 @@
+pub mod PieceAddresses
+pub mod SlotNumbers
+pub mod Sections
+pub mod Addresses
+pub mod MadePlaces
+pub mod MadeValues
+pub mod InputSymbols
+pub mod NameValues
+pub mod SymbolNumbering
+pub mod ValueLaws

@@ -1,6 +1,0 @@
-use Rattle.std.proofs.Common.{◌≡◌, ◌++◌, drop}
-use Rattle.lk_table_sizes.specs.DynamicRows.{is_copied_row, numbers_where}
-use Rattle.lk_table_sizes.proofs.dynamic_rows.copied_among.Given as goal
-
-abbrev pub invariant-loop-number : goal.invariant-loop-number
-invariant-loop-number l = l.numbers ++ numbers_where (is_copied_row l.copied.keys) l.number (drop l.number l.names) ≡ numbers_where (is_copied_row l.copied.keys) 0 l.names
