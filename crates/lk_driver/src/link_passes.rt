@@ -13,14 +13,14 @@ ghost use Rattle.lk_resolve.specs.Settling.{IsFound};
 ghost use Rattle.lk_dyn_sizes.specs.Given.{IsGiven};
 ghost use Rattle.lk_driver.specs.LinkPasses.{PlaceAnswers, ScanAnswers, SettleAnswers};
 
+use lk_inputs::{InputFileList, Inputs, resolve_inputs};
 use lk_layout::full_layout;
-use lk_scan_inputs::{ScannedInputs, scan_inputs};
 use lk_model::layouts::{LayoutFault, Needs, Placement};
 use lk_model::summaries::{InputSummary, SummaryList};
-use lk_inputs::{InputFileList, Inputs, resolve_inputs};
 use lk_report::{OptionRecord, Status};
 use lk_resolve::{Resolution, SettleFault};
 use lk_scan::ScanFailure;
+use lk_scan_inputs::{ScannedInputs, scan_inputs};
 use std::alloc::Global;
 
 /// What the inputs decide: those that are added, names and their definitions, kept sections.

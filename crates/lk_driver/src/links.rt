@@ -13,11 +13,11 @@ use crate::file_numbers::files_fit;
 use crate::link_needs::check_needs;
 use crate::link_passes::{place, scan, settle};
 use lk_image::link_image;
-use lk_scan_inputs::ScannedInputs;
-use lk_model::summaries::SummaryList;
 use lk_inputs::Inputs;
+use lk_model::summaries::SummaryList;
 use lk_report::{Bytes, OptionRecord, Status};
 use lk_resolve::Resolution;
+use lk_scan_inputs::ScannedInputs;
 use std::alloc::Global;
 
 /// The image of a link whose references are scanned.

@@ -10,9 +10,9 @@ ghost use Rattle.lk_driver.specs.Outer.{IsDue, DoneLeaves, ReadFaultReported, De
 use crate::commits::commit;
 use crate::links::link_inputs;
 use crate::words::accepted_command;
+use lk_inputs::read_command;
 use lk_model::commands::Command;
 use lk_outside::{Answer, Device, Files, Turnstile};
-use lk_inputs::read_command;
 use lk_report::{Bytes, NameList, Outcome, Sink, Status, say};
 use std::alloc::Global;
 

@@ -8,8 +8,8 @@ ghost use Rattle.lk_inputs.specs.Resolves.{IsCommand};
 ghost use Rattle.lk_law_records.specs.CommandFits.{CommandFits};
 ghost use Rattle.lk_driver.specs.ImageGiven.{OutputUnless, WordsGive};
 
-use lk_model::commands::{Command, Item, Mode, Word};
 use lk_inputs::command_of;
+use lk_model::commands::{Command, Item, Mode, Word};
 use lk_report::{Name, NameList, NoMemory, Status, Waiting};
 use std::alloc::Global;
 

@@ -15,10 +15,10 @@ ghost use Rattle.lk_resolve.specs.Settling.{IsFound};
 
 use crate::placed_tails::{PlacedTail, place_tail};
 use lk_incr::tail;
+use lk_inputs::InputName;
 use lk_model::layouts::Placement;
 use lk_model::records::{InputRecord, InputRecordList, Records, ReferenceList};
 use lk_model::summaries::{InputSummary, SummaryList};
-use lk_inputs::InputName;
 use lk_records::link_records;
 use lk_report::{List, NoMemory, OptionRecord};
 use lk_resolve::Resolution;

@@ -10,9 +10,9 @@ ghost use Rattle.lk_dyn_sizes.specs.SizeRows.{as_pairs};
 use crate::key_kinds::{least_of, reserved_of, same_key};
 use crate::rooms::{patched_room, room_of};
 use crate::walks::Walk;
+use lk_dyn_sizes::TableSize;
 use lk_model::layouts::{Class, SectionKey};
 use lk_report::NoMemory;
-use lk_dyn_sizes::TableSize;
 use std::marker::Model;
 
 /// A section's size and room in bytes, and its alignment. Contracts see it as an `Extent` of lk_model.

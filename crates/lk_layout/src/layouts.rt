@@ -18,12 +18,12 @@ use crate::kept_pieces::{bss_key, kept_pieces};
 use crate::placing::place_kept;
 use crate::sections::group_keys;
 use crate::slots::slots_of;
+use lk_dyn_sizes::{TableSizeList, table_sizes};
 use lk_law_placement::full_placement_is_lawful;
 use lk_model::layouts::{LayoutFault, Needs, Placement};
 use lk_model::summaries::SummaryList;
 use lk_report::{Name, NoMemory, OptionRecord};
 use lk_resolve::Resolution;
-use lk_dyn_sizes::{TableSizeList, table_sizes};
 use std::alloc::Global;
 
 /// The tables of a link with their sizes, where its kept pieces go to these output sections.

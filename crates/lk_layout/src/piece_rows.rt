@@ -10,8 +10,8 @@ ghost use Rattle.lk_layout.specs.Walked.{walked};
 
 use crate::amounts::{narrow, plus};
 use crate::grouping::Grouped;
-use crate::row_places::{RowPlace, group_row_places};
 use crate::kept::Kept;
+use crate::row_places::{RowPlace, group_row_places};
 use crate::walks::Walk;
 use lk_model::layouts::{PieceRow, PieceRowList, SectionRow};
 use lk_report::{List, NoMemory};
@@ -19,7 +19,12 @@ use std::alloc::Global;
 
 /// The row of a piece, whose offset in its section is this where it is no terminator: that is in the last
 /// four bytes of its room. An address that no field holds is answered as out of memory.
-fn row_under(row_place: RowPlace, walk: &Walk, piece: &Kept<'_>, offset: u128) -> Result<PieceRow, NoMemory>
+fn row_under(
+    row_place: RowPlace,
+    walk: &Walk,
+    piece: &Kept<'_>,
+    offset: u128,
+) -> Result<PieceRow, NoMemory>
     ensures { IfOk result (λ row. row ≡ row_under row_place walk.now piece.now offset) }
 {
     let place = if walk.is_patched() && piece.is_terminator() {

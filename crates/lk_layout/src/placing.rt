@@ -15,9 +15,9 @@ use crate::section_rows::{memory_of, narrowed_rows, rows_of};
 use crate::sections::{extents_of, ordered_keys, walk_groups};
 use crate::walks::Walk;
 use crate::wide_rows::WideRow;
+use lk_dyn_sizes::TableSize;
 use lk_model::layouts::{LayoutFault, Placement, SectionKey, SlotTable};
 use lk_report::{LimitFault, LimitKind, NoMemory};
-use lk_dyn_sizes::TableSize;
 use std::alloc::Global;
 
 /// So many output sections a link may have.

@@ -26,7 +26,11 @@ pub(crate) struct RowPlace {
 type RowPlaces<'r> = IndexMap<KeyRef<'r>, RowPlace>;
 
 /// Notes the row of a key, where none is noted yet.
-fn note_row_place<'r>(row_places: &mut RowPlaces<'r>, key: &'r SectionKey, row_place: RowPlace) -> Result<(), NoMemory>
+fn note_row_place<'r>(
+    row_places: &mut RowPlaces<'r>,
+    key: &'r SectionKey,
+    row_place: RowPlace,
+) -> Result<(), NoMemory>
     ensures { OnOk result ((k : SectionKey) → get same_key row_places.new k ≡ row_place_noted (get same_key row_places.old k) key.now row_place k) }
 {
     if row_places.contains_key(&KeyRef { key }) {

@@ -9,9 +9,9 @@ ghost use Rattle.lk_layout.specs.Walked.{walked};
 use crate::extents::{WideExtent, extent_of};
 use crate::grouping::Grouped;
 use crate::walks::{Walk, walk_pieces};
+use lk_dyn_sizes::TableSize;
 use lk_model::layouts::{SectionKey, SectionKeyList};
 use lk_report::{List, NoMemory};
-use lk_dyn_sizes::TableSize;
 use std::alloc::Global;
 
 /// The walks of all groups, by their numbers.

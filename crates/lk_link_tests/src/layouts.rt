@@ -145,7 +145,11 @@ fn is_row(row: &SectionRow, reported: &FileAnswers) -> bool {
 
 /// Whether rows have these names and numbers.
 fn are_rows(rows: &[SectionRow], all: &[FileAnswers]) -> bool {
-    rows.len() == all.len() && rows.iter().zip(all).all(|(row, reported)| is_row(row, reported))
+    rows.len() == all.len()
+        && rows
+            .iter()
+            .zip(all)
+            .all(|(row, reported)| is_row(row, reported))
 }
 
 /// The row of a section of an input.

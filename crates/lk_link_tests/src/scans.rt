@@ -309,7 +309,9 @@ fn with_shared(alloc: Global) -> Result<Answer, Fail> {
 }
 
 #[test]
-fn a_name_that_is_undefined_at_two_sites_is_reported_at_the_first(rt: HostRuntime) -> Result<(), Fail> {
+fn a_name_that_is_undefined_at_two_sites_is_reported_at_the_first(
+    rt: HostRuntime,
+) -> Result<(), Fail> {
     let answer = scanned(rt.alloc(), &[], b"_start")?;
     assert_eq!(rt; answer.err(), Some(undefined(rt.alloc())?));
     Ok(())

@@ -3,7 +3,7 @@
 
 ghost use Rattle.std.specs.Prelude.{◌+◌, ◌≤◌};
 
-use crate::headers::{NO_SECTION, NO_SECTIONS, NO_SYMBOL, FileAnswers, is_text};
+use crate::headers::{FileAnswers, NO_SECTION, NO_SECTIONS, NO_SYMBOL, is_text};
 use lk_elf::numbers::{SHF_ALLOC, SHN_ABS, SHT_GROUP, SHT_PROGBITS, SHT_STRTAB, SHT_SYMTAB};
 use lk_elf::{Ehdr, Shdr, Sym};
 use lk_model::summaries::{Group, GroupList};
@@ -188,7 +188,10 @@ fn a_place_is_reported(rt: HostRuntime) {
 fn a_flag_is_reported(rt: HostRuntime) {
     let bad = Some(InputFault::BadGroup(1));
     for (flag, wanted) in [(0, None), (1, None), (2, bad)] {
-        assert_eq!(rt; words_reported(rt.alloc(), [flag, 3, 3, 1, 5, 4]), Ok(wanted));
+        assert_eq!(rt;
+            words_reported(rt.alloc(), [flag, 3, 3, 1, 5, 4]),
+            Ok(wanted)
+        );
     }
 }
 

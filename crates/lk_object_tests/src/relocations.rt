@@ -3,7 +3,7 @@
 
 ghost use Rattle.std.specs.Prelude.{◌^◌, ◌<◌, ◌≤◌, length};
 
-use crate::headers::{NO_SECTION, NO_SECTIONS, NO_SYMBOL, FileAnswers};
+use crate::headers::{FileAnswers, NO_SECTION, NO_SECTIONS, NO_SYMBOL};
 use lk_elf::numbers::{
     SHF_ALLOC, SHF_EXECINSTR, SHF_WRITE, SHT_NOBITS, SHT_PROGBITS, SHT_RELA, SHT_STRTAB, SHT_SYMTAB,
 };
@@ -147,7 +147,10 @@ fn fields_share_a_byte(rt: HostRuntime) {
         (none(0), none(0), None),
     ];
     for (a, b, wanted) in cases {
-        assert_eq!(rt; four_reported(rt.alloc(), a, b, none(0), none(0)), Ok(wanted));
+        assert_eq!(rt;
+            four_reported(rt.alloc(), a, b, none(0), none(0)),
+            Ok(wanted)
+        );
     }
 }
 
@@ -188,7 +191,10 @@ fn each_target_has_its_own_fields(rt: HostRuntime) {
     ];
     for (d, second, wanted) in cases {
         let bytes = file(four(0), four(4), four(0), d);
-        assert_eq!(rt; reported(rt.alloc(), &bytes, TEXT, FIRST, second), Ok(wanted));
+        assert_eq!(rt;
+            reported(rt.alloc(), &bytes, TEXT, FIRST, second),
+            Ok(wanted)
+        );
     }
 }
 
@@ -223,7 +229,10 @@ fn zeros_have_no_fields(rt: HostRuntime) {
     };
     let bytes = file(none(0), none(0), none(0), none(0));
     let wanted = Some(InputFault::BadRela(4, 0));
-    assert_eq!(rt; reported(rt.alloc(), &bytes, zeros, FIRST, SECOND), Ok(wanted));
+    assert_eq!(rt;
+        reported(rt.alloc(), &bytes, zeros, FIRST, SECOND),
+        Ok(wanted)
+    );
 }
 
 #[test]

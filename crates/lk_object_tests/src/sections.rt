@@ -3,7 +3,7 @@
 
 ghost use Rattle.std.specs.Prelude.{◌+◌, ◌≤◌};
 
-use crate::headers::{NO_SECTION, NO_SECTIONS, FileAnswers, is_text};
+use crate::headers::{FileAnswers, NO_SECTION, NO_SECTIONS, is_text};
 use lk_elf::numbers::{
     ET_DYN, SHF_ALLOC, SHF_COMPRESSED, SHF_EXECINSTR, SHF_TLS, SHF_WRITE, SHT_HASH, SHT_NOBITS,
     SHT_PROGBITS, SHT_REL, SHT_STRTAB, SHT_SYMTAB_SHNDX, SHT_X86_64_UNWIND,
@@ -235,7 +235,10 @@ fn a_name_may_be_closed_behind_its_table(rt: HostRuntime) {
         sh_size: 79,
         ..TITLES
     };
-    assert_eq!(rt; titles_reported(rt.alloc(), named(OPEN_NAME), longer), Ok(None));
+    assert_eq!(rt;
+        titles_reported(rt.alloc(), named(OPEN_NAME), longer),
+        Ok(None)
+    );
 }
 
 #[test]

@@ -3,7 +3,7 @@
 
 ghost use Rattle.std.specs.Prelude.{◌+◌, ◌≤◌, ◌<◌, ◌^◌, length};
 
-use crate::headers::{NO_SECTION, NO_SYMBOL, FileAnswers};
+use crate::headers::{FileAnswers, NO_SECTION, NO_SYMBOL};
 use lk_elf::numbers::{
     SHF_ALLOC, SHF_EXECINSTR, SHF_TLS, SHF_WRITE, SHN_ABS, SHN_COMMON, SHN_UNDEF, SHN_XINDEX,
     SHT_PROGBITS, SHT_STRTAB, SHT_SYMTAB,
@@ -236,7 +236,10 @@ fn a_symbol_section_is_reported(rt: HostRuntime) {
         (SHN_UNDEF, None),
     ];
     for (section, wanted) in cases {
-        assert_eq!(rt; global_reported(rt.alloc(), global(0x10, section)), Ok(wanted));
+        assert_eq!(rt;
+            global_reported(rt.alloc(), global(0x10, section)),
+            Ok(wanted)
+        );
     }
 }
 

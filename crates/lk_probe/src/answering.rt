@@ -7,8 +7,8 @@ ghost use Rattle.lk_probe.specs.Answering.{Answers};
 
 use crate::arguments::Asked;
 use crate::file_texts::file_reported;
-use crate::rows::places_reported;
 use crate::resolution_texts::reported;
+use crate::rows::places_reported;
 use lk_outside::Files;
 use lk_report::{Bytes, Status};
 use std::alloc::Global;

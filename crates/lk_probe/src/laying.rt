@@ -8,12 +8,12 @@ ghost use Rattle.lk_inputs.specs.FileAnswers.{StatusCounts, known_map};
 ghost use Rattle.lk_probe.specs.Laying.{CommandLaid, WordsLaid};
 
 use crate::placing::{place_inputs, status_of};
-use lk_scan_inputs::unrefused_are_objects;
+use lk_inputs::{command_of, read_command};
 use lk_model::commands::Command;
 use lk_model::layouts::Placement;
 use lk_outside::Files;
-use lk_inputs::{command_of, read_command};
 use lk_report::{NameList, Status};
+use lk_scan_inputs::unrefused_are_objects;
 use std::alloc::Global;
 
 /// Where a link of a command, made anew, puts everything.

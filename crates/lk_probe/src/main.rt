@@ -18,9 +18,9 @@ mod file_texts;
 mod laying;
 mod placing;
 mod reading;
+mod resolution_texts;
 mod rows;
 mod saying;
-mod resolution_texts;
 mod writing;
 
 use answering::answer_to;

@@ -10,14 +10,14 @@ ghost use Rattle.lk_inputs.specs.Resolves.{settle_status};
 ghost use Rattle.lk_probe.specs.Laying.{InputsLaid, layout_status, scan_status, unplaced_status};
 ghost use Rattle.lk_probe.specs.declared.placing.Unplaced.TheVariants as unplaced;
 
+use lk_inputs::{Inputs, resolve_inputs};
 use lk_layout::full_layout;
-use lk_scan_inputs::scan_inputs;
 use lk_model::commands::Command;
 use lk_model::layouts::{LayoutFault, Placement};
-use lk_inputs::{Inputs, resolve_inputs};
 use lk_report::Status;
 use lk_resolve::SettleFault;
 use lk_scan::ScanFailure;
+use lk_scan_inputs::scan_inputs;
 use std::alloc::Global;
 
 /// Why inputs that were read have no places.

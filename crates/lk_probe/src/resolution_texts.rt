@@ -6,8 +6,8 @@ ghost use Rattle.lk_inputs.specs.FileAnswers.{StatusCounts, known_map};
 ghost use Rattle.lk_probe.specs.ResolutionTexts.{Reports, added_line, added_lines, resolution_text};
 
 use crate::writing::{put, put_number};
-use lk_outside::Files;
 use lk_inputs::resolve_words;
+use lk_outside::Files;
 use lk_report::{Bytes, NameList, NoMemory, Status};
 use lk_resolve::Resolution;
 use std::alloc::Global;

@@ -14,10 +14,10 @@ ghost use Rattle.lk_resolve.specs.Settling.{IsFound};
 
 use crate::input_records::input_records;
 use crate::name_records::name_rows;
+use lk_inputs::InputName;
 use lk_model::layouts::Placement;
 use lk_model::records::{Records, ReferenceList};
 use lk_model::summaries::SummaryList;
-use lk_inputs::InputName;
 use lk_report::{NoMemory, OptionRecord};
 use lk_resolve::Resolution;
 use std::alloc::Global;

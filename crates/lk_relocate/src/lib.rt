@@ -16,12 +16,12 @@
 mod field_filling;
 mod growing;
 mod linking;
+mod numbers_of_symbols;
 mod object_sections;
 mod object_tables;
 mod piece_marks;
 mod piece_places;
 mod relocations;
 mod section_linking;
-mod numbers_of_symbols;
 
 pub use linking::link_pieces;

@@ -11,21 +11,31 @@ use crate::relocations::symbol_of;
 use lk_elf::Rela;
 use lk_obj_read::Object;
 use lk_report::{Name, NoMemory};
-use lk_symtab::SymTab;
 use lk_symbol_values::{SymbolNumbers, Values};
+use lk_symtab::SymTab;
 
 /// The values of symbols, by number, as far as they were asked for.
 pub(crate) type NumbersOfSymbols = Vec<Option<SymbolNumbers>>;
 
 /// What is known of a symbol.
-pub(crate) fn symbol_numbers_at(numbers_by_symbol: &NumbersOfSymbols, symbol: u32) -> Option<SymbolNumbers>
+pub(crate) fn symbol_numbers_at(
+    numbers_by_symbol: &NumbersOfSymbols,
+    symbol: u32,
+) -> Option<SymbolNumbers>
     ensures { result ≡ symbol_numbers_at numbers_by_symbol.now.items symbol }
 {
-    numbers_by_symbol.get(symbol as usize).copied().unwrap_or(None)
+    numbers_by_symbol
+        .get(symbol as usize)
+        .copied()
+        .unwrap_or(None)
 }
 
 /// Notes the value of a symbol.
-fn note_numbers(numbers_by_symbol: &mut NumbersOfSymbols, symbol: u32, symbol_numbers: SymbolNumbers) -> Result<(), NoMemory>
+fn note_numbers(
+    numbers_by_symbol: &mut NumbersOfSymbols,
+    symbol: u32,
+    symbol_numbers: SymbolNumbers,
+) -> Result<(), NoMemory>
     ensures { OnOk result ((k : ℕ) → symbol_numbers_at numbers_by_symbol.new.items k ≡ cond (k == symbol) (Some symbol_numbers) (symbol_numbers_at numbers_by_symbol.old.items k)) }
 {
     make_room(numbers_by_symbol, symbol, None)?;

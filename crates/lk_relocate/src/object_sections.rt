@@ -11,8 +11,8 @@ ghost use Rattle.lk_relocate.specs.References.{reference_in};
 ghost use Rattle.lk_relocate.specs.NumbersOfSymbols.{IsReady, AreNumbersAt, relocation_at};
 ghost use Rattle.lk_symbol_values.specs.SymbolNumbering.{low_numbers};
 
-use crate::relocations::{code_of, symbol_of};
 use crate::numbers_of_symbols::{NumbersOfSymbols, find_numbers, symbol_numbers_at};
+use crate::relocations::{code_of, symbol_of};
 use lk_elf::Rela;
 use lk_model::layouts::{Numbers, Placement};
 use lk_obj_read::Object;

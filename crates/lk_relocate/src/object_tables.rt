@@ -8,8 +8,8 @@ ghost use Rattle.lk_symbol_values.specs.SymbolNumbering.{ValueInputs};
 ghost use Rattle.lk_relocate.specs.ObjectsOfInputs.{object_in};
 ghost use Rattle.lk_relocate.specs.ObjectTables.{AreCurrent, AreTablesOf};
 
-use crate::piece_marks::{PieceMarks, is_marked, mark_pieces};
 use crate::numbers_of_symbols::{NumbersOfSymbols, learn_symbols};
+use crate::piece_marks::{PieceMarks, is_marked, mark_pieces};
 use lk_obj_read::Object;
 use lk_report::NoMemory;
 use lk_symbol_values::Values;

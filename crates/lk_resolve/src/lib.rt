@@ -14,7 +14,6 @@
 
 mod definers;
 mod definition_faults;
-mod state;
 mod input_symbols;
 mod kept_sections;
 mod made_names;
@@ -27,6 +26,7 @@ mod section_places;
 mod section_sets;
 mod settle_faults;
 mod settling;
+mod state;
 mod turns;
 mod wanted_names;
 

@@ -10,8 +10,8 @@ ghost use Rattle.lk_resolve.specs.Turns.{is_due};
 ghost use Rattle.lk_resolve.specs.Wanted.{wants};
 
 use crate::definers::{Definers, definers_of};
-use crate::state::ResolverState;
 use crate::members::Member;
+use crate::state::ResolverState;
 use crate::turns::Turns;
 use lk_model::summaries::Global as Symbol;
 use lk_report::{List, Name, NoMemory};

@@ -9,11 +9,11 @@ ghost use Rattle.lk_resolve.specs.Searches.{numbered_on};
 ghost use Rattle.lk_resolve.specs.Settling.{SettleGives};
 ghost use Rattle.lk_resolve.specs.States.{state_of};
 
-use crate::state::ResolverState;
 use crate::resolution::Resolution;
 use crate::searches::add_members;
 use crate::settle_faults::SettleFault;
 use crate::settling::settle_state;
+use crate::state::ResolverState;
 use lk_model::summaries::{InputSummary, SummaryList};
 use lk_report::{Name, NameList, NoMemory};
 use std::alloc::Global;

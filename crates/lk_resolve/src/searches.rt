@@ -5,9 +5,9 @@
 ghost use Rattle.std.specs.Prelude.{◌≡◌, ◌≤◌, length, IfOk, OnOk};
 ghost use Rattle.lk_resolve.specs.Searches.{members_as, numbered_on, searched};
 
-use crate::state::ResolverState;
 use crate::members::Member;
 use crate::name_searches::search_by_names;
+use crate::state::ResolverState;
 use lk_model::summaries::InputSummary;
 use lk_report::{List, NoMemory};
 use std::alloc::Global;

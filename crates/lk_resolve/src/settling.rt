@@ -3,9 +3,9 @@
 ghost use Rattle.std.specs.Prelude.{◌≡◌, nat_lt, length};
 ghost use Rattle.lk_resolve.specs.Settling.{SettlesTo};
 
-use crate::state::ResolverState;
 use crate::resolution::Resolution;
 use crate::settle_faults::SettleFault;
+use crate::state::ResolverState;
 use lk_report::{FaultList, LimitFault, LimitKind};
 
 /// A link may have so many names.

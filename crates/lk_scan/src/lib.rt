@@ -23,12 +23,12 @@ mod name_targets;
 mod need_sets;
 mod noting;
 mod referral_faults;
+mod reported_faults;
 mod scans;
 mod slots;
 mod symbol_targets;
 mod target_lists;
 mod targets;
-mod reported_faults;
 
 pub use laws::scans_are_the_links;
 pub use link_scans::LinkScan;

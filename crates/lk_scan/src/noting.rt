@@ -13,9 +13,9 @@ ghost use Rattle.lk_scan.specs.Targets.{referral_of, setting_of};
 
 use crate::need_sets::NeedSets;
 use crate::referral_faults::note_faults;
+use crate::reported_faults::FileAnswers;
 use crate::symbol_targets::symbol_target;
 use crate::targets::{Referral, Setting, Target, Way};
-use crate::reported_faults::FileAnswers;
 use lk_elf::Rela;
 use lk_model::layouts::{Class, SectionKey};
 use lk_model::records::{Reference, ReferenceList};

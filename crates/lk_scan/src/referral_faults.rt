@@ -11,8 +11,8 @@ use crate::forms::{
     is_thread_offset, is_thread_slot_form,
 };
 use crate::name_targets::import_at;
-use crate::targets::{Import, Referral, Setting, Target, Way};
 use crate::reported_faults::FileAnswers;
+use crate::targets::{Import, Referral, Setting, Target, Way};
 use lk_elf::numbers::STT_OBJECT;
 use lk_report::{Fault, Name, NoMemory};
 use lk_symtab::SymTab;

@@ -13,10 +13,10 @@ ghost use Rattle.lk_scan_inputs.specs.Scans.{InputsScanned};
 
 use crate::object_reading::{ObjectList, read_objects};
 use crate::object_scans::scan_objects;
+use lk_inputs::{InputFileList, InputNameList};
 use lk_model::layouts::Needs;
 use lk_model::records::ReferenceList;
 use lk_model::summaries::InputSummary;
-use lk_inputs::{InputFileList, InputNameList};
 use lk_resolve::Resolution;
 use lk_scan::ScanFailure;
 use std::alloc::Global;

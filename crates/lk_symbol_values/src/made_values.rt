@@ -96,7 +96,11 @@ fn note_row(
 }
 
 /// Where the loaded sections among these that hold pieces begin and end; of a name that several have the first.
-fn bounds_among(alloc: Global, got_content: &SectionsWithPieces, rows: &[SectionRow]) -> Result<Bounds, NoMemory>
+fn bounds_among(
+    alloc: Global,
+    got_content: &SectionsWithPieces,
+    rows: &[SectionRow],
+) -> Result<Bounds, NoMemory>
     ensures { IfOk result (λ bounds. FindsBounds (is_number_in got_content.now.keys) bounds.entries rows.now) }
 {
     let mut bounds = IndexMap::new(alloc);

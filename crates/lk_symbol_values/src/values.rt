@@ -121,7 +121,11 @@ fn slot_of(addresses: &Addresses<'_>, owner: GotOwner, thread: bool) -> u64
 }
 
 /// The value of a symbol with this value, which has the GOT slots of this owner.
-fn symbol_numbers_by(addresses: &Addresses<'_>, value: SymbolValue, owner: GotOwner) -> SymbolNumbers
+fn symbol_numbers_by(
+    addresses: &Addresses<'_>,
+    value: SymbolValue,
+    owner: GotOwner,
+) -> SymbolNumbers
     ensures { result ≡ symbol_numbers_by addresses.now value owner }
 {
     SymbolNumbers {
@@ -146,7 +150,11 @@ fn slot_by(code: u32, symbol_numbers: &SymbolNumbers) -> u64
 }
 
 /// The numbers of a relocation through a symbol that has the value this.
-fn numbers_by(addresses: &Addresses<'_>, relocation: &Relocation, symbol_numbers: &SymbolNumbers) -> Numbers
+fn numbers_by(
+    addresses: &Addresses<'_>,
+    relocation: &Relocation,
+    symbol_numbers: &SymbolNumbers,
+) -> Numbers
     ensures { result ≡ numbers_by addresses.now relocation.now symbol_numbers.now }
 {
     Numbers {

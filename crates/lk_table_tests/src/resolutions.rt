@@ -1,7 +1,7 @@
 //! Small links by hand: lib groups whose members are wanted or not, groups of one signature, two strong
 //! definitions of one name, and a weak one against common blocks.
 
-use crate::making::{added, both, only, resolver, resolved, symbol, symbols};
+use crate::making::{added, both, only, resolved, resolver, symbol, symbols};
 use lk_elf::numbers::STB_WEAK;
 use lk_model::layouts::{Class, SectionKey};
 use lk_model::summaries::{
@@ -206,7 +206,9 @@ fn entry_twice(alloc: Global) -> Result<Fault, NoMemory> {
 }
 
 #[test]
-fn a_second_strong_definition_is_reported_against_the_first(rt: HostRuntime) -> Result<(), NoMemory> {
+fn a_second_strong_definition_is_reported_against_the_first(
+    rt: HostRuntime,
+) -> Result<(), NoMemory> {
     let object = object(rt.alloc(), b"_start", b"_start")?;
     let faults = faults_twice(rt.alloc(), &object)?;
     let reported = [entry_twice(rt.alloc())?];

@@ -1,14 +1,14 @@
 //! Two small links by hand: a static one of one object, and a dynamic one of an object and a library. The sizes
 //! are counted by hand.
 
-use crate::making::{added, both, only, resolver, resolved, symbols};
+use crate::making::{added, both, only, resolved, resolver, symbols};
+use lk_dyn_sizes::{SlotFill, TableSizeList, copied_names, slot_fills, table_sizes};
 use lk_model::layouts::{
     Class, GotKey, GotKeyList, GotOwner, GotSlotList, Needs, SectionKey, SectionKeyList, SlotTable,
 };
 use lk_model::summaries::{Home, InputSummary, Kind, SummaryList};
 use lk_report::{List, Name, NoMemory, OptionRecord};
 use lk_resolve::Resolution;
-use lk_dyn_sizes::{SlotFill, TableSizeList, copied_names, slot_fills, table_sizes};
 use std::alloc::Global;
 
 /// An input without sections and with these symbols.
