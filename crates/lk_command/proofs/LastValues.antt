@@ -9,10 +9,10 @@ use Rattle.lk_model.specs.Checks.{first_fault}
 use Rattle.lk_model.specs.Grammar.{Phrase, Wrong, Named, Flagged, Given, ExportDynamic, InMode, Marked, Threads, NoThreads, StartLib, EndLib, Output, Entry, Dir, Library, Interp, RunPath, Machine, Base, Patch, ThreadCount, Valued, command_of, holds_zero, is_bad_number, is_digits, is_missing, is_number_in, is_other_machine, is_output, names_output, open_after, number_in, options_of, with_base, with_entry, with_export, with_interp, with_mode, with_output, with_patch, with_workers}
 use Rattle.lk_command.specs.Commands.{command_by}
 use Rattle.lk_command.specs.PhraseFaults.{checks_in, fault_after, given_checks_in}
-use Rattle.lk_command.specs.Values.{FileAnswers, at_first, number_read, values_after}
+use Rattle.lk_command.specs.Values.{GivenValues, at_first, number_read, values_after}
 
 -- the grammar's values after one more phrase
-abbrev reported_after : FileAnswers → Phrase → FileAnswers
+abbrev reported_after : GivenValues → Phrase → GivenValues
 reported_after reported phrase = record {
   output = with_output reported.output phrase;
   entry = with_entry reported.entry phrase;
@@ -25,7 +25,7 @@ reported_after reported phrase = record {
 }
 
 -- the grammar's values after all phrases
-abbrev reported_by : FileAnswers → List Phrase → FileAnswers
+abbrev reported_by : GivenValues → List Phrase → GivenValues
 reported_by reported phrases = record {
   output = fold with_output reported.output phrases;
   entry = fold with_entry reported.entry phrases;
@@ -60,7 +60,7 @@ number_is : (low high old : ℕ) (value : List ℕ) → not (is_number_in low hi
 number_is low high old value good =
     read_from (is_digits value) (nat_le low (number_in value)) (nat_le (number_in value) high) (number_in value) old good
 
-one_phrase : (reported : FileAnswers) (group : Option ℕ) (named : Bool) (phrase : Phrase) → first_fault (checks_in group named phrase) ≡ None → values_after reported phrase ≡ reported_after reported phrase
+one_phrase : (reported : GivenValues) (group : Option ℕ) (named : Bool) (phrase : Phrase) → first_fault (checks_in group named phrase) ≡ None → values_after reported phrase ≡ reported_after reported phrase
 one_phrase reported group named (Wrong n) none = refl
 one_phrase reported group named (Named path) none = refl
 one_phrase reported group named (Flagged n ExportDynamic) none = refl
@@ -102,13 +102,13 @@ rest_none : (a b : Option UsageFault) → option_or a b ≡ None → b ≡ None
 rest_none None b none = none
 rest_none (Some f) b none = absurd (cc)
 
-values_are : (reported : FileAnswers) (group : Option ℕ) (named : Bool) (phrases : List Phrase) → fault_after group named phrases ≡ None → fold values_after reported phrases ≡ reported_by reported phrases
+values_are : (reported : GivenValues) (group : Option ℕ) (named : Bool) (phrases : List Phrase) → fault_after group named phrases ≡ None → fold values_after reported phrases ≡ reported_by reported phrases
 values_are reported group named [] none = refl
 values_are reported group named (phrase ∷ phrases) none =
-    ap (λ (t : FileAnswers). fold values_after t phrases) (one_phrase reported group named phrase (first_none (first_fault (checks_in group named phrase)) (fault_after (open_after group phrase) (named || names_output phrase) phrases) none))
+    ap (λ (t : GivenValues). fold values_after t phrases) (one_phrase reported group named phrase (first_none (first_fault (checks_in group named phrase)) (fault_after (open_after group phrase) (named || names_output phrase) phrases) none))
     ∙ values_are (reported_after reported phrase) (open_after group phrase) (named || names_output phrase) phrases
     (rest_none (first_fault (checks_in group named phrase)) (fault_after (open_after group phrase) (named || names_output phrase) phrases) none)
 
 pub command_is : (phrases : List Phrase) → fault_after None false phrases ≡ None → command_by (fold values_after at_first phrases) phrases ≡ command_of phrases
 unfolding command_of options_of
-command_is phrases none = ap (λ (t : FileAnswers). command_by t phrases) (values_are at_first None false phrases none)
+command_is phrases none = ap (λ (t : GivenValues). command_by t phrases) (values_are at_first None false phrases none)

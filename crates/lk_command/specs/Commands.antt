@@ -4,10 +4,10 @@ use Rattle.std.specs.List.{join_with_byte}
 use Rattle.lk_report.specs.declared.causes.OptionRecord.{OptionRecord}
 use Rattle.lk_model.specs.declared.commands.Command.{Command}
 use Rattle.lk_model.specs.Grammar.{Phrase, base_beside, dirs_of, items_of, run_dirs_of}
-use Rattle.lk_command.specs.Values.{FileAnswers}
+use Rattle.lk_command.specs.Values.{GivenValues}
 
 -- the options that an image records
-abbrev pub options_by : FileAnswers → List Phrase → OptionRecord
+abbrev pub options_by : GivenValues → List Phrase → OptionRecord
 options_by reported phrases = record {
   entry = reported.entry;
   interp = reported.interp;
@@ -18,7 +18,7 @@ options_by reported phrases = record {
 }
 
 -- the command of values and of the phrases that they were reported by
-abbrev pub command_by : FileAnswers → List Phrase → Command
+abbrev pub command_by : GivenValues → List Phrase → Command
 command_by reported phrases = record {
   output = reported.output;
   mode = reported.mode;

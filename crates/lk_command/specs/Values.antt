@@ -12,7 +12,7 @@ abbrev pub number_read : List ℕ → Option ℕ
 number_read text = then_some (is_digits text) (number_in text)
 
 -- the values of a command
-pub record FileAnswers : Type 0 where
+pub record GivenValues : Type 0 where
   pub output : List ℕ
   pub entry : List ℕ
   pub interp : List ℕ
@@ -23,7 +23,7 @@ pub record FileAnswers : Type 0 where
   pub workers : ℕ
 
 -- the code's values, whose texts are in the words
-abbrev pub values_seen : Values → FileAnswers
+abbrev pub values_seen : Values → GivenValues
 values_seen values = record {
   output = values.output.now;
   entry = values.entry.now;
@@ -36,7 +36,7 @@ values_seen values = record {
 }
 
 -- the values where no word gives another
-abbrev pub at_first : FileAnswers
+abbrev pub at_first : GivenValues
 at_first = record {
   output = codes "a.out";
   entry = codes "_start";
@@ -49,7 +49,7 @@ at_first = record {
 }
 
 -- the values after an option with its value; what should be a number and is none changes nothing
-abbrev pub given_after : FileAnswers → Valued → List ℕ → FileAnswers
+abbrev pub given_after : GivenValues → Valued → List ℕ → GivenValues
 given_after old Output value = record old { output = value }
 given_after old Entry value = record old { entry = value }
 given_after old Interp value = record old { interp = value }
@@ -59,7 +59,7 @@ given_after old ThreadCount value = record old { workers = unwrap_or (number_rea
 given_after old other value = old
 
 -- the values after a word that is alone
-abbrev pub flagged_after : FileAnswers → Flag → FileAnswers
+abbrev pub flagged_after : GivenValues → Flag → GivenValues
 flagged_after old ExportDynamic = record old { export_dynamic = true }
 flagged_after old (InMode mode) = record old { mode = mode }
 flagged_after old Threads = record old { workers = 4 }
@@ -67,7 +67,7 @@ flagged_after old NoThreads = record old { workers = 1 }
 flagged_after old other = old
 
 -- the values after one more phrase
-abbrev pub values_after : FileAnswers → Phrase → FileAnswers
+abbrev pub values_after : GivenValues → Phrase → GivenValues
 values_after old (Given number option at (Some value)) = given_after old option value
 values_after old (Flagged number flag) = flagged_after old flag
 values_after old other = old

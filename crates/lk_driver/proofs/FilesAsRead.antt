@@ -14,10 +14,10 @@ use Rattle.lk_model.specs.ObjectChecks.{object_fault}
 use Rattle.lk_model.specs.Objects.{summary_in}
 use Rattle.lk_model.specs.Resolving.{paths_of}
 use Rattle.lk_model.specs.Views.{Input}
+use Rattle.lk_model.specs.InputNames.{input_summary}
 use Rattle.lk_scan_inputs.specs.Objects.{AreObjects}
 use Rattle.lk_inputs.specs.declared.input_files.InputFile.{InputFile}
 use Rattle.lk_inputs.specs.declared.inputs.Inputs.{Inputs}
-use Rattle.lk_inputs.specs.Adding.{summary_of}
 use Rattle.lk_inputs.specs.Asked.{AreSound, all_places}
 use Rattle.lk_inputs.specs.FilesRead.{fault_in, shared_wait}
 use Rattle.lk_inputs.specs.FilesRead.{summary_of as summary_read}
@@ -54,7 +54,7 @@ unfolding read_after input_read elf_of elf.elf_under elf.elf_with
 files_are earlier [] = refl
 files_are earlier (file ∷ files) = ap (λ (fs : List InputFile). file ∷ fs) (files_are (file.name.path ∷ earlier) files)
 
-summaries_are : (earlier : List (List ℕ)) (files : List InputFile) → map summary_read files ≡ map summary_of (read_after earlier files)
+summaries_are : (earlier : List (List ℕ)) (files : List InputFile) → map summary_read files ≡ map input_summary (read_after earlier files)
 unfolding read_after input_read
 summaries_are earlier [] = refl
 summaries_are earlier (file ∷ files) = ap (λ (ss : List InputSummary). summary_read file ∷ ss) (summaries_are (file.name.path ∷ earlier) files)

@@ -22,6 +22,7 @@ use Rattle.lk_model.specs.SymbolValues.{reference_fits}
 use Rattle.lk_model.specs.Tail.{tail_parts}
 use Rattle.lk_model.specs.Views.{Input, Ref, Resolved}
 use Rattle.lk_model.specs.declared.layouts.Placement.{Placement}
+use Rattle.lk_model.proofs.Limits.{below}
 use Rattle.lk_image.specs.ImageAnswers.{ImageAnswers, IsRefusal, first_of, headers_limit, image_refusal, length_limit}
 use Rattle.lk_law_placement.specs.SoundInputs.{SoundInputs}
 use Rattle.lk_law_placement.proofs.PiecesLawful.{inputs_are_lawful}
@@ -29,7 +30,6 @@ use Rattle.lk_law_loading.specs.Loadable.{WithinLimits}
 use Rattle.lk_law_loading.proofs.FullLoaded.{inputs_are_loadable}
 use Rattle.lk_law_loading.proofs.PiecesLoaded.{all_pieces_loaded}
 use Rattle.lk_inputs.specs.AnswerLaws.{answer_unless}
-use Rattle.lk_inputs.proofs.AnswersReported.{below}
 use Rattle.lk_law_records.specs.Recordable.{InputsFit}
 use Rattle.lk_law_records.proofs.Limits.{limit-reports, limits-make-recordable}
 use Rattle.lk_law_records.proofs.Recorded.{full-place-recorded}

@@ -19,7 +19,6 @@ use Rattle.lk_model.specs.FileHeader.{exec_stack_of}
 use Rattle.lk_model.specs.Finding.{Found, contributions_in, path_in}
 use Rattle.lk_model.specs.Forms.{is_address_form, is_thread_offset}
 use Rattle.lk_model.specs.FullPlace.{full_place, memory_of, section_count}
-use Rattle.lk_model.specs.KeptPieces.{is_loaded}
 use Rattle.lk_model.specs.NeedsOf.{import_of, is_variable}
 use Rattle.lk_model.specs.Overflows.{overflow_faults, overflow_of, path_of_input}
 use Rattle.lk_model.specs.References.{Sited, sited_of}
@@ -33,6 +32,7 @@ use Rattle.lk_model.specs.Views.{Elf, Input, Ref, Resolved, Through}
 use Rattle.lk_model.specs.Winners.{is_nothing}
 use Rattle.lk_inputs.specs.Asked.{is_missing}
 use Rattle.lk_driver.specs.LinkStatuses.{IsLinkStatus}
+use Rattle.lk_model.specs.SectionKeys.{is_alloc}
 
 -- ---- faults of which none reports of a missing input
 
@@ -128,15 +128,15 @@ direct_other found x = elim (import_of found x) as (λ o. AreOther (elim o [
 reference_other : (found : Found) (elf : Elf) (x : Sited) → AreOther (faults_at found elf x)
 reference_other found elf (key, x) =
     let dropped : List Fault = cond (needs_local_sections key && is_to_dropped found elf x) (fault.DroppedLocal (site_of found x) ∷ []) [] in
-    let unsupported : List Fault = cond (is_unsupported found elf (is_loaded key.class) x) (fault.Unsupported x.code (site_of found x) ∷ []) [] in
+    let unsupported : List Fault = cond (is_unsupported found elf (is_alloc key.class) x) (fault.Unsupported x.code (site_of found x) ∷ []) [] in
     let imported : List Fault = empty_copy_at found x ++ direct_tls_at found x in
-    let loaded : List Fault = cond (is_loaded key.class) imported [] in
+    let loaded : List Fault = cond (is_alloc key.class) imported [] in
     joined (undefined_at found x ++ dropped ++ unsupported) loaded
     (joined (undefined_at found x ++ dropped) unsupported
     (joined (undefined_at found x) dropped (undefined_other found x)
     (one_where (needs_local_sections key && is_to_dropped found elf x) (fault.DroppedLocal (site_of found x)) refl))
-    (one_where (is_unsupported found elf (is_loaded key.class) x) (fault.Unsupported x.code (site_of found x)) refl))
-    (all_where (is_loaded key.class) imported (joined (empty_copy_at found x) (direct_tls_at found x) (copy_other found x) (direct_other found x)))
+    (one_where (is_unsupported found elf (is_alloc key.class) x) (fault.Unsupported x.code (site_of found x)) refl))
+    (all_where (is_alloc key.class) imported (joined (empty_copy_at found x) (direct_tls_at found x) (copy_other found x) (direct_other found x)))
   where
     all_where : (b : Bool) (fs : List Fault) → AreOther fs → AreOther (cond b fs [])
     all_where true fs all = all

@@ -13,6 +13,8 @@ use Rattle.lk_model.specs.Resolving.{resolve}
 use Rattle.lk_model.specs.Views.{Input, Resolved}
 use Rattle.lk_model.specs.declared.layouts.Placement.{Placement}
 use Rattle.lk_model.specs.declared.summaries.InputSummary.{InputSummary}
+use Rattle.lk_model.specs.InputNames.{name_of}
+use Rattle.lk_resolve.specs.Given.{IsGiven}
 use Rattle.lk_image.specs.ImageAnswers.{ImageAnswers}
 use Rattle.lk_image.specs.PlacedLinks.{IsPlacedLink}
 use Rattle.lk_law_writes.specs.Layable.{Layable}
@@ -21,13 +23,12 @@ use Rattle.lk_law_placement.proofs.PiecesLawful.{inputs_are_lawful}
 use Rattle.lk_scan_inputs.specs.Objects.{input_names}
 use Rattle.lk_scan_inputs.specs.declared.link_scanning.ScannedInputs.{ScannedInputs}
 use Rattle.lk_law_loading.specs.Loadable.{WithinLimits}
-use Rattle.lk_inputs.specs.Named.{files_of, name_of}
+use Rattle.lk_inputs.specs.Named.{files_of}
 use Rattle.lk_inputs.specs.declared.input_files.InputFile.{InputFile}
-use Rattle.lk_inputs.specs.declared.input_names.InputName.{InputName}
+use Rattle.lk_model.specs.declared.input_names.InputName.{InputName}
 use Rattle.lk_inputs.specs.declared.inputs.Inputs.{Inputs}
 use Rattle.lk_records.specs.Occurrences.{OccurrencesAreRight}
 use Rattle.lk_resolve.specs.Settling.{ResolutionValue}
-use Rattle.lk_dyn_sizes.specs.Given.{IsGiven}
 use Rattle.lk_driver.specs.FileBytes.{FileBytesFit}
 use Rattle.lk_driver.specs.LinkAnswers.{LinkAnswers}
 use Rattle.lk_driver.specs.LinkPasses.{IsPlaced, IsRefused, LinkGives, NeedsAnswer, PlaceAnswers, ScanAnswers, SettleAnswers, needs_answer, path_of_first}

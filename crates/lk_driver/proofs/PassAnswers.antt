@@ -17,9 +17,11 @@ use Rattle.lk_model.specs.Resolving.{resolve}
 use Rattle.lk_model.specs.Segments.{program_headers}
 use Rattle.lk_model.specs.Views.{Input, Resolved}
 use Rattle.lk_model.specs.declared.layouts.Placement.{Placement}
+use Rattle.lk_model.proofs.Limits.{above}
+use Rattle.lk_model.proofs.Limits.{below}
+use Rattle.lk_resolve.specs.Given.{found_in}
 use Rattle.lk_inputs.specs.AnswerLaws.{answer_unless, scanned_answer}
-use Rattle.lk_inputs.specs.Resolves.{found_in}
-use Rattle.lk_inputs.proofs.AnswersReported.{above, below, faults_reported_of, names_counted, some_faults}
+use Rattle.lk_inputs.proofs.AnswersReported.{faults_reported_of, names_counted, some_faults}
 use Rattle.lk_resolve.specs.Settling.{SettleGives, ResolutionValue, most_names}
 use Rattle.lk_resolve.specs.declared.settle_faults.SettleFault.TheVariants as settle
 use Rattle.lk_driver.specs.LinkPasses.{needs_answer}

@@ -11,12 +11,12 @@ use Rattle.lk_model.specs.Resolving.{resolve}
 use Rattle.lk_model.specs.Views.{Input, Resolved}
 use Rattle.lk_model.specs.declared.layouts.Needs.{Needs}
 use Rattle.lk_model.specs.declared.layouts.Placement.{Placement}
+use Rattle.lk_resolve.specs.Given.{found_in}
 use Rattle.lk_scan_inputs.specs.Scans.{InputsScanned}
 use Rattle.lk_scan_inputs.specs.declared.link_scanning.ScannedInputs.{ScannedInputs}
 use Rattle.lk_inputs.specs.AnswerLaws.{answer_unless, scanned_answer}
-use Rattle.lk_inputs.specs.Resolves.{found_in}
 use Rattle.lk_inputs.specs.declared.input_files.InputFile.{InputFile}
-use Rattle.lk_inputs.specs.declared.input_names.InputName.{InputName}
+use Rattle.lk_model.specs.declared.input_names.InputName.{InputName}
 use Rattle.lk_resolve.specs.Settling.{IsFound, ResolutionValue}
 
 -- a link is refused: with the answer that is due, which is not that it is done, or for out of memory

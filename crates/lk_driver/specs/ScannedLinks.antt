@@ -5,8 +5,8 @@ use Rattle.lk_report.specs.declared.causes.OptionRecord.{OptionRecord}
 use Rattle.lk_model.specs.Resolving.{resolve}
 use Rattle.lk_model.specs.Views.{Input}
 use Rattle.lk_model.specs.declared.summaries.InputSummary.{InputSummary}
+use Rattle.lk_resolve.specs.Given.{found_in}
 use Rattle.lk_scan_inputs.specs.declared.link_scanning.ScannedInputs.{ScannedInputs}
-use Rattle.lk_inputs.specs.Resolves.{found_in}
 use Rattle.lk_inputs.specs.declared.inputs.Inputs.{Inputs}
 use Rattle.lk_resolve.specs.Settling.{IsFound, ResolutionValue}
 use Rattle.lk_driver.specs.FileBytes.{FileBytesFit}

@@ -4,7 +4,7 @@ ghost use Rattle.std.specs.Prelude.{◌≡◌, IfOk};
 ghost use Rattle.lk_model.specs.Answers.{is_empty, needs_nothing};
 ghost use Rattle.lk_driver.specs.LinkPasses.{NeedsAnswer, path_of_first};
 
-use lk_inputs::InputName;
+use lk_model::input_names::InputName;
 use lk_model::layouts::Needs;
 use lk_report::{List, Name, NoMemory, Status, Waiting};
 use std::alloc::Global;

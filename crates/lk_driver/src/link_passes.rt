@@ -4,13 +4,13 @@ ghost use Rattle.std.specs.Prelude.{◌≡◌, ◌≤◌, List, [], filter_map, 
 ghost use Rattle.lk_report.specs.declared.causes.OptionRecord.{OptionRecord as OptionsReported};
 ghost use Rattle.lk_model.specs.Resolving.{resolve};
 ghost use Rattle.lk_model.specs.Views.{Input};
+ghost use Rattle.lk_resolve.specs.Given.{found_in};
+ghost use Rattle.lk_resolve.specs.Given.{IsGiven};
 ghost use Rattle.lk_scan_inputs.specs.Objects.{AreObjects};
 ghost use Rattle.lk_inputs.specs.FilesRead.{fault_in, summary_of};
 ghost use Rattle.lk_inputs.specs.Named.{files_of};
 ghost use Rattle.lk_inputs.specs.Refusals.{AreInputs};
-ghost use Rattle.lk_inputs.specs.Resolves.{found_in};
 ghost use Rattle.lk_resolve.specs.Settling.{IsFound};
-ghost use Rattle.lk_dyn_sizes.specs.Given.{IsGiven};
 ghost use Rattle.lk_driver.specs.LinkPasses.{PlaceAnswers, ScanAnswers, SettleAnswers};
 
 use lk_inputs::{InputFileList, Inputs, resolve_inputs};

@@ -15,14 +15,14 @@ use Rattle.lk_model.specs.Numbered.{is_number_in}
 use Rattle.lk_model.specs.Resolving.{resolve}
 use Rattle.lk_model.specs.SectionOrder.{slots_of}
 use Rattle.lk_model.specs.Views.{Input, Resolved}
+use Rattle.lk_resolve.specs.Given.{IsGiven}
 use Rattle.lk_resolve.specs.Settling.{ResolutionValue}
 use Rattle.lk_symtab.specs.NameRows.{NameRow, row_winner}
 use Rattle.lk_dyn_sizes.specs.DynamicRows.{copied_numbers}
 use Rattle.lk_dyn_sizes.specs.declared.slot_rows.SlotFill.{SlotFill}
 use Rattle.lk_dyn_sizes.specs.Fills.{as_fills, filled_by, filled_count, fills_from, is_filled, number_fill, owner_fill_in, row_fill, slot_fill_in}
-use Rattle.lk_dyn_sizes.specs.Given.{IsGiven}
 use Rattle.lk_dyn_sizes.proofs.NamesGiven.{copied_is}
-use Rattle.lk_dyn_sizes.proofs.Seen.{Sees, seen}
+use Rattle.lk_resolve.proofs.Seen.{Sees, seen}
 
 -- the type for the winner of a row
 row_type : (thread copied : Bool) (o : Option NameRow) → option_and_then (winner_fill thread copied) (option_map row_winner o) ≡ option_and_then (row_fill thread copied) o

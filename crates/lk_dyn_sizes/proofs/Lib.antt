@@ -3,7 +3,6 @@ pub mod FillsCounted
 pub mod TextsStored
 pub mod StringsNoted
 pub mod EntriesCounted
-pub mod Seen
 pub mod NamesGiven
 pub mod FillsGiven
 pub mod StringsGiven

@@ -18,13 +18,13 @@ use Rattle.lk_model.specs.DynamicSlots.{copied_names}
 use Rattle.lk_model.specs.Numbered.{is_number_in}
 use Rattle.lk_model.specs.Resolving.{resolve}
 use Rattle.lk_model.specs.Views.{Input, Resolved}
+use Rattle.lk_resolve.specs.Given.{IsGiven}
 use Rattle.lk_resolve.proofs.ListSets.{any-distinct, or_assoc}
 use Rattle.lk_resolve.specs.Settling.{ResolutionValue}
 use Rattle.lk_symtab.specs.NameRows.{NameRow, all_symbols, row_visibility, row_winner}
 use Rattle.lk_dyn_sizes.specs.DynamicRows.{copied_in, copied_numbers, dynamic_in, is_copied_row, is_dynamic_as, is_dynamic_row, needed_numbers, numbers_where, slot_names}
 use Rattle.lk_dyn_sizes.specs.DynamicStrings.{number_texts, row_texts, texts_at}
-use Rattle.lk_dyn_sizes.specs.Given.{IsGiven}
-use Rattle.lk_dyn_sizes.proofs.Seen.{Sees, seen}
+use Rattle.lk_resolve.proofs.Seen.{Sees, seen}
 
 -- the names of slots
 one_slot : (n : ℕ) (o : GotOwner) (thread : Bool) (rest : List ℕ) (later : Bool) → list_any (nat_eq n) rest ≡ later

@@ -21,19 +21,19 @@ use Rattle.lk_model.specs.SectionOrder.{dynamic_sizes_where, slots_of, table_siz
 use Rattle.lk_model.specs.Texts.{table_bytes}
 use Rattle.lk_model.specs.Views.{Input, Resolved}
 use Rattle.lk_model.specs.Winners.{is_in_object}
+use Rattle.lk_resolve.specs.Given.{IsGiven}
 use Rattle.lk_resolve.specs.RowFaults.{is_some_in_object}
 use Rattle.lk_resolve.specs.Settling.{ResolutionValue}
 use Rattle.lk_symtab.specs.NameRows.{NameRow, number_of, row_winner}
 use Rattle.lk_dyn_sizes.specs.DynamicRows.{dynamic_in}
 use Rattle.lk_dyn_sizes.specs.DynamicStrings.{needed_in}
 use Rattle.lk_dyn_sizes.specs.EntryCounts.{count_where, entry_count_in, is_defined_in}
-use Rattle.lk_dyn_sizes.specs.Given.{IsGiven}
 use Rattle.lk_dyn_sizes.specs.declared.size_rows.TableSize.{TableSize}
 use Rattle.lk_dyn_sizes.specs.SizeRows.{as_pairs}
 use Rattle.lk_dyn_sizes.specs.SizesIn.{counts_in, dynamic_pairs, sizes_in, sizes_of}
 use Rattle.lk_dyn_sizes.proofs.FillsGiven.{filled_seen}
 use Rattle.lk_dyn_sizes.proofs.NamesGiven.{copied_seen, dynamic_seen}
-use Rattle.lk_dyn_sizes.proofs.Seen.{Sees, seen}
+use Rattle.lk_resolve.proofs.Seen.{Sees, seen}
 use Rattle.lk_dyn_sizes.proofs.StringsGiven.{needed_seen, strings_seen}
 
 -- a number where a winner is in an object

@@ -13,13 +13,14 @@ use Rattle.lk_model.specs.Numbered.{distinct, with_new}
 use Rattle.lk_model.specs.Resolving.{resolve}
 use Rattle.lk_model.specs.Texts.{table_of, with_text}
 use Rattle.lk_model.specs.Views.{Input, Resolved}
+use Rattle.lk_model.specs.InputNames.{input_summary}
+use Rattle.lk_resolve.specs.Given.{IsGiven}
 use Rattle.lk_resolve.specs.Settling.{ResolutionValue}
 use Rattle.lk_symtab.specs.NameRows.{NameRow}
 use Rattle.lk_dyn_sizes.specs.DynamicRows.{dynamic_in}
 use Rattle.lk_dyn_sizes.specs.DynamicStrings.{needed_in, some_sonames, sonames_at, strings_in, strings_of}
-use Rattle.lk_dyn_sizes.specs.Given.{IsGiven, input_summary}
 use Rattle.lk_dyn_sizes.proofs.NamesGiven.{dynamic_seen, dynamic_texts_seen}
-use Rattle.lk_dyn_sizes.proofs.Seen.{Sees, seen}
+use Rattle.lk_resolve.proofs.Seen.{Sees, seen}
 
 -- the names of shared inputs
 soname_here : (o : Option Input) (rest : List Input) (later : List (List ℕ)) → flat_map sonames_of rest ≡ later → flat_map sonames_of (cons_option o rest) ≡ some_sonames (option_map input_summary o) ++ later

@@ -1,4 +1,3 @@
-pub mod Given
 pub mod SizeRows
 pub mod DynamicRows
 pub mod Fills

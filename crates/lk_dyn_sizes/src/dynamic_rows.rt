@@ -9,8 +9,8 @@ ghost use Rattle.lk_model.specs.DynamicNames as names;
 ghost use Rattle.lk_model.specs.DynamicSlots as slots;
 ghost use Rattle.lk_model.specs.Resolving.{resolve};
 ghost use Rattle.lk_model.specs.Views.{Input};
+ghost use Rattle.lk_resolve.specs.Given.{IsGiven};
 ghost use Rattle.lk_dyn_sizes.specs.DynamicRows.{chosen_at, copied_in, dynamic_in, is_copied_row, is_dynamic_as, is_dynamic_row, numbers_where, test_at};
-ghost use Rattle.lk_dyn_sizes.specs.Given.{IsGiven};
 
 use crate::name_sets::{NameSet, copied_set, needed_set};
 use lk_elf::numbers::{STV_DEFAULT, STV_PROTECTED};

@@ -9,9 +9,9 @@ ghost use Rattle.lk_model.specs.DynamicSlots.{import_fill, winner_fill};
 ghost use Rattle.lk_model.specs.DynamicSlots as model;
 ghost use Rattle.lk_model.specs.Resolving.{resolve};
 ghost use Rattle.lk_model.specs.Views.{Input};
+ghost use Rattle.lk_resolve.specs.Given.{IsGiven};
 ghost use Rattle.lk_dyn_sizes.specs.DynamicRows.{copied_numbers};
 ghost use Rattle.lk_dyn_sizes.specs.Fills.{as_fill, as_fills, filled_count, fills_from, is_filled, key_fill, number_fill, owner_fill_in, slot_fill_in};
-ghost use Rattle.lk_dyn_sizes.specs.Given.{IsGiven};
 
 use crate::name_sets::{NameSet, copied_set};
 use crate::slot_rows::{SlotFill, SlotFillList};

@@ -10,8 +10,8 @@ ghost use Rattle.lk_model.specs.DynamicTexts as model;
 ghost use Rattle.lk_model.specs.Resolving.{resolve};
 ghost use Rattle.lk_model.specs.Texts.{with_text};
 ghost use Rattle.lk_model.specs.Views.{Input};
+ghost use Rattle.lk_resolve.specs.Given.{IsGiven};
 ghost use Rattle.lk_dyn_sizes.specs.DynamicStrings.{needed_in, number_sonames, number_texts, sonames_at, strings_of, summary_sonames, texts_at};
-ghost use Rattle.lk_dyn_sizes.specs.Given.{IsGiven};
 
 use crate::text_table::TextTable;
 use lk_model::summaries::{InputSummary, Kind, SummaryList};

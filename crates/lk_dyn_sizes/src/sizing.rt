@@ -6,7 +6,7 @@ ghost use Rattle.lk_model.specs.HashTable.{word_count};
 ghost use Rattle.lk_model.specs.Resolving.{resolve};
 ghost use Rattle.lk_model.specs.SectionOrder.{slots_of, table_sizes_among};
 ghost use Rattle.lk_model.specs.Views.{Input};
-ghost use Rattle.lk_dyn_sizes.specs.Given.{IsGiven};
+ghost use Rattle.lk_resolve.specs.Given.{IsGiven};
 ghost use Rattle.lk_dyn_sizes.specs.SizeRows.{as_pairs};
 ghost use Rattle.lk_dyn_sizes.specs.SizesIn.{counts_in, sizes_in, sizes_of};
 

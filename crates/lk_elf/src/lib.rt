@@ -23,6 +23,6 @@ pub use dynamic_entry::Dyn;
 pub use file_header::Ehdr;
 pub use missing::Short;
 pub use program_header::Phdr;
-pub use relocation::Rela;
+pub use relocation::{Rela, r_info};
 pub use section_header::Shdr;
 pub use symbol::Sym;

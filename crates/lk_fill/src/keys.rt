@@ -2,8 +2,9 @@
 
 ghost use Rattle.std.specs.Prelude.{◌≡◌, bytes_eq};
 ghost use Rattle.lk_model.specs.Holes.{gap_byte, past_byte};
-ghost use Rattle.lk_model.specs.SectionKeys.{in_file, is_executable, is_table, named, reserved_of};
+ghost use Rattle.lk_model.specs.SectionKeys.{is_table, named, reserved_of};
 
+use lk_model::classes::is_executable;
 use lk_model::layouts::{Class, SectionKey};
 
 /// Whether a name is this one.
@@ -62,26 +63,6 @@ pub(crate) fn reserved_of(key: &SectionKey) -> u64
     ensures { result ≡ reserved_of key.now }
 {
     reserved_by(key.class, key.name.as_slice())
-}
-
-/// Whether sections of the class may be executed.
-fn is_executable(class: Class) -> bool
-    ensures { result ≡ is_executable class }
-{
-    match class {
-        Class::X | Class::WX => true,
-        Class::R | Class::W | Class::Tdata | Class::Tbss | Class::Bss | Class::N => false,
-    }
-}
-
-/// Whether the file holds the bytes of sections of the class.
-pub(crate) fn in_file(class: Class) -> bool
-    ensures { result ≡ in_file class }
-{
-    match class {
-        Class::Tbss | Class::Bss => false,
-        Class::R | Class::X | Class::W | Class::WX | Class::Tdata | Class::N => true,
-    }
 }
 
 /// The byte in the gaps between the pieces of a sequence: in code the instruction that does nothing.

@@ -10,7 +10,7 @@ ghost use Rattle.lk_fill.specs.Filled.{all_holes, fill_stretches, fill_with, wri
 
 use crate::gaps::holes;
 use crate::hole_bytes::fill_hole;
-use crate::keys::in_file;
+use lk_model::classes::in_file;
 use lk_model::layouts::{Hole, HoleList, Placement, SectionRow};
 use lk_report::NoMemory;
 use std::alloc::Global;

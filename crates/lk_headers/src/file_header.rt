@@ -8,10 +8,10 @@ ghost use Rattle.lk_model.specs.Segments.{program_headers};
 ghost use Rattle.lk_headers.specs.Front.{front_header};
 ghost use Rattle.lk_headers.specs.TailRows.{headers_at, last_end};
 
-use crate::classes::in_file;
 use crate::low_bits::{low_16, low_64};
 use lk_elf::Ehdr;
 use lk_elf::numbers::{EM_X86_64, ET_EXEC};
+use lk_model::classes::in_file;
 use lk_model::layouts::{Placement, SectionRow, SectionRowList};
 
 /// Where a room ends in the file.

@@ -8,14 +8,11 @@ use crate::appending::{put_file_header, put_zeros_to};
 use crate::counting::header_count;
 use crate::file_header::file_header;
 use crate::program_headers::put_program_headers;
+use lk_model::images::SEAL_OFFSET;
 use lk_model::layouts::{LayoutFault, Placement, SectionRowList};
+use lk_model::limits::MOST_HEADERS;
 use lk_report::{Bytes, LimitFault, LimitKind, NoMemory};
 use std::alloc::Global;
-
-/// The most program headers of an image: as many have room before the seal.
-const MOST_HEADERS: u64 = 64;
-/// Where the seal is.
-const SEAL_OFFSET: usize = 4088;
 
 /// Puts the file header and the program headers at the end.
 #[tactic(auto, using(crate::proofs::FrontLengths::front_put), unfolding(crate::specs::Front::front_bytes))]

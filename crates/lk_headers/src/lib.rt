@@ -14,7 +14,6 @@
 #![tactic(auto)]
 
 mod appending;
-mod classes;
 mod counting;
 mod file_header;
 mod front;

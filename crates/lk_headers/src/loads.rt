@@ -12,19 +12,13 @@ ghost use Rattle.lk_model.specs.Segments.{first_load, first_segment_end, load_he
 ghost use Rattle.lk_headers.specs.Ends.{has_items, is_in_segment, rows_in};
 ghost use Rattle.lk_headers.specs.ProgramHeaders.{second_header};
 
-use crate::classes::same_class;
 use crate::low_bits::{above, low_64};
 use crate::segments::{Loaded, Side, end_in, is_in_segment};
 use lk_elf::Phdr;
 use lk_elf::numbers::{PF_R, PF_W, PF_X, PT_LOAD};
+use lk_model::classes::same_class;
+use lk_model::images::{FIRST_ADDRESS, LOAD_BASE, PAGE};
 use lk_model::layouts::{Class, Placement, SectionRow};
-
-/// Where the first byte of the file is loaded.
-pub(crate) const LOAD_BASE: u128 = 0x400000;
-/// Where the first section begins.
-const FIRST_ADDRESS: u128 = 0x401000;
-/// A page in bytes.
-const PAGE: u64 = 0x1000;
 
 /// The next page from a place on.
 fn next_page(n: u128) -> u128
@@ -39,7 +33,7 @@ fn first_segment_end(place: &Placement) -> u128
     ensures value { result ≡ first_segment_end place.now }
     ensures bound { result < 2 ^ 65 }
 {
-    FIRST_ADDRESS.max(end_in(Side::Memory, Loaded::First, place))
+    u128::from(FIRST_ADDRESS).max(end_in(Side::Memory, Loaded::First, place))
 }
 
 /// Where the second segment begins.
@@ -65,7 +59,7 @@ fn load(flags: u32, address: u128, stored: u128, end: u128) -> Phdr
     Phdr {
         p_type: PT_LOAD,
         p_flags: flags,
-        p_offset: low_64(above(address, LOAD_BASE)),
+        p_offset: low_64(above(address, u128::from(LOAD_BASE))),
         p_vaddr: low_64(address),
         p_paddr: low_64(address),
         p_filesz: low_64(above(stored, address)),
@@ -112,7 +106,7 @@ pub(crate) fn first_load(place: &Placement) -> Phdr
     ensures { phdr_bytes result ≡ phdr_bytes (first_load place.now) }
 {
     let end = first_segment_end(place);
-    load(PF_R, LOAD_BASE, end, end)
+    load(PF_R, u128::from(LOAD_BASE), end, end)
 }
 
 /// The header of the second segment, if it has a section.

@@ -6,13 +6,13 @@ ghost use Rattle.lk_model.specs.Tail.{entry_size_of, info_of, is_symtab_part, pa
 ghost use Rattle.lk_headers.specs.SectionKinds.{table_types, type_among};
 ghost use Rattle.lk_headers.specs.SectionTable.{part_entry_size, part_info};
 
-use crate::classes::in_file;
 use crate::shown::{is_key, is_name, is_note};
 use lk_elf::numbers::{
     DYN_SIZE, RELA_SIZE, SHF_ALLOC, SHF_EXECINSTR, SHF_TLS, SHF_WRITE, SHT_DYNAMIC, SHT_DYNSYM,
     SHT_FINI_ARRAY, SHT_HASH, SHT_INIT_ARRAY, SHT_NOBITS, SHT_NOTE, SHT_PREINIT_ARRAY,
     SHT_PROGBITS, SHT_RELA, SHT_STRTAB, SHT_SYMTAB, SYM_SIZE,
 };
+use lk_model::classes::in_file;
 use lk_model::layouts::{Class, SectionKey};
 
 /// The type of a table of a dynamic link, and of any section that is none.

@@ -4,7 +4,7 @@
 ghost use Rattle.std.specs.Prelude.{◌≡◌, ◌≤◌, ◌^◌, ◌<◌};
 ghost use Rattle.lk_headers.specs.Ends.{is_in_segment, rows_in, counts_for, room_end, end_on};
 
-use crate::classes::{in_file, same_class};
+use lk_model::classes::{in_file, same_class};
 use lk_model::layouts::{Class, Placement, SectionRow};
 
 /// A loaded segment, in the order of the file.

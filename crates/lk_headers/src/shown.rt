@@ -5,9 +5,9 @@ ghost use Rattle.lk_model.specs.SectionKeys.{is_note, named, same_key};
 ghost use Rattle.lk_model.specs.Segments.{section_header_of};
 ghost use Rattle.lk_headers.specs.Shown.{is_shown, shown_flags, shown_type};
 
-use crate::classes::same_class;
 use lk_elf::Phdr;
 use lk_elf::numbers::{PF_R, PF_W, PT_DYNAMIC, PT_INTERP, PT_NOTE};
+use lk_model::classes::same_class;
 use lk_model::layouts::{Class, SectionKey, SectionRow};
 
 /// What such a section holds.

@@ -5,11 +5,11 @@ ghost use Rattle.lk_elf.specs.Records.{phdr_bytes};
 ghost use Rattle.lk_model.specs.Segments.{stack_header, tls_segment};
 ghost use Rattle.lk_headers.specs.Shown.{thread_bytes, thread_header};
 
-use crate::loads::LOAD_BASE;
 use crate::low_bits::{above, low_64};
 use crate::thread_block::{ThreadSegment, thread_segment};
 use lk_elf::Phdr;
 use lk_elf::numbers::{PF_R, PF_W, PF_X, PT_GNU_STACK, PT_TLS};
+use lk_model::images::LOAD_BASE;
 use lk_model::layouts::Placement;
 
 /// The header of a thread-local segment at an address, with its bytes in the file and in memory.
@@ -20,7 +20,7 @@ fn header_at(addr: u64, file: u64, memory: u128, align: u64) -> Phdr
     Phdr {
         p_type: PT_TLS,
         p_flags: PF_R,
-        p_offset: low_64(above(u128::from(addr), LOAD_BASE)),
+        p_offset: low_64(above(u128::from(addr), u128::from(LOAD_BASE))),
         p_vaddr: addr,
         p_paddr: addr,
         p_filesz: file,

@@ -8,9 +8,9 @@ ghost use Rattle.lk_model.specs.SectionKeys.{same_class};
 ghost use Rattle.lk_model.specs.Segments.{thread_segment, tls_end, tls_segment, tls_start};
 ghost use Rattle.lk_model.specs.declared.layouts.SectionRow.{SectionRow};
 
-use crate::classes::same_class;
 use crate::low_bits::above;
 use crate::segments::room_end;
+use lk_model::classes::same_class;
 use lk_model::layouts::{Class, Placement, SectionRow};
 use std::marker::Model;
 

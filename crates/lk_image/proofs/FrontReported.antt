@@ -13,11 +13,11 @@ use Rattle.lk_model.specs.declared.layouts.LayoutFault.{LayoutFault}
 use Rattle.lk_model.specs.declared.layouts.LayoutFault.TheVariants as layout
 use Rattle.lk_model.specs.declared.layouts.Placement.{Placement}
 use Rattle.lk_model.specs.declared.layouts.SectionRow.{SectionRow}
+use Rattle.lk_model.proofs.Limits.{above}
 use Rattle.lk_headers.specs.Front.{FrontGives, front_bytes, front_header, up_to_seal}
 use Rattle.lk_headers.specs.TailRows.{rows_of_parts}
 use Rattle.lk_headers.proofs.FieldBytes.{low-long}
 use Rattle.lk_headers.proofs.ModelRows.{front}
-use Rattle.lk_inputs.proofs.AnswersReported.{above}
 use Rattle.lk_symbol_values.specs.Sections.{low_64}
 use Rattle.lk_image.specs.ImageAnswers.{FrontAnswers, front_status}
 

@@ -16,10 +16,10 @@ use Rattle.lk_model.specs.Views.{Input, Resolved}
 use Rattle.lk_model.specs.declared.layouts.Needs.{Needs}
 use Rattle.lk_model.specs.declared.layouts.Placement.{Placement}
 use Rattle.lk_model.specs.declared.summaries.InputSummary.{InputSummary}
+use Rattle.lk_model.proofs.Limits.{below}
+use Rattle.lk_resolve.specs.Given.{IsGiven}
 use Rattle.lk_relocate.specs.Links.{IsLinked}
-use Rattle.lk_inputs.proofs.AnswersReported.{below}
 use Rattle.lk_resolve.specs.Settling.{ResolutionValue}
-use Rattle.lk_dyn_sizes.specs.Given.{IsGiven}
 use Rattle.lk_symbol_values.specs.Sections.{low_64}
 use Rattle.lk_symbol_values.specs.SymbolNumbering.{ValueInputs}
 use Rattle.lk_image.specs.ImageAnswers.{FrontAnswers, ImageAnswers, IsRefusal, LengthAnswers, WriteAnswers, headers_limit, image_limit, length_limit}

@@ -8,7 +8,7 @@ use Rattle.lk_model.specs.Views.{Input, Resolved}
 use Rattle.lk_model.specs.declared.layouts.Placement.{Placement}
 use Rattle.lk_model.specs.declared.records.Records.{Records}
 use Rattle.lk_model.specs.declared.summaries.InputSummary.{InputSummary}
-use Rattle.lk_dyn_sizes.specs.Given.{input_summary}
+use Rattle.lk_model.specs.InputNames.{input_summary}
 use Rattle.lk_image.specs.declared.described.Described.{Described}
 use Rattle.lk_image.specs.declared.placed_tails.PlacedTail.{PlacedTail}
 use Rattle.lk_image.specs.Tails.{described_of, placed_tail, recorded_summary}

@@ -4,8 +4,9 @@ use Rattle.std.specs.Prelude.{◌≤◌, ◌<◌, ℕ, ◌^◌, Option, Some, No
 use Rattle.lk_report.specs.declared.statuses.LimitKind.TheVariants as limit
 use Rattle.lk_report.specs.declared.statuses.Status.{Status}
 use Rattle.lk_report.specs.declared.statuses.Status.TheVariants as status
-use Rattle.lk_inputs.proofs.AnswersReported.{above, below}
 use Rattle.lk_image.specs.ImageAnswers.{IsRefusal, first_of, length_limit}
+use Rattle.lk_model.proofs.Limits.{above}
+use Rattle.lk_model.proofs.Limits.{below}
 
 -- a refusal of one is a refusal of another that is as due
 passes_on : (due other : Option Status) (s : Status) → (due ≡ Some s → other ≡ Some s) → IsRefusal due s → IsRefusal other s

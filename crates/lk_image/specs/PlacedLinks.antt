@@ -13,13 +13,13 @@ use Rattle.lk_model.specs.Views.{Input, Resolved}
 use Rattle.lk_model.specs.declared.layouts.Needs.{Needs}
 use Rattle.lk_model.specs.declared.layouts.Placement.{Placement}
 use Rattle.lk_model.specs.declared.summaries.InputSummary.{InputSummary}
+use Rattle.lk_resolve.specs.Given.{IsGiven}
 use Rattle.lk_headers.specs.Front.{up_to_seal}
 use Rattle.lk_law_writes.specs.Layable.{Layable, NeedsNoTables}
 use Rattle.lk_relocate.specs.ObjectsOfInputs.{HoldsObject}
 use Rattle.lk_relocate.specs.Links.{IsLinked}
 use Rattle.lk_law_loading.specs.Loadable.{WithinLimits}
 use Rattle.lk_resolve.specs.Settling.{ResolutionValue}
-use Rattle.lk_dyn_sizes.specs.Given.{IsGiven}
 use Rattle.lk_symbol_values.specs.SymbolNumbering.{ValueInputs}
 
 -- a static link without tables at a placement that it may have

@@ -10,10 +10,10 @@ use Rattle.lk_model.specs.Views.{Resolved}
 use Rattle.lk_model.specs.declared.layouts.Placement.{Placement}
 use Rattle.lk_model.specs.declared.records.InputRecord.{InputRecord}
 use Rattle.lk_model.specs.declared.summaries.InputSummary.{InputSummary}
+use Rattle.lk_model.specs.InputNames.{input_summary}
 use Rattle.lk_headers.specs.TailRows.{rows_of_parts}
 use Rattle.lk_image.specs.declared.placed_tails.PlacedTail.{PlacedTail}
 use Rattle.lk_image.specs.declared.described.Described.{Described}
-use Rattle.lk_dyn_sizes.specs.Given.{input_summary}
 
 -- a tail with these parts
 abbrev pub placed_tail : Placement → List Part → PlacedTail

@@ -6,16 +6,16 @@ ghost use Rattle.lk_model.specs.References.{recorded_of};
 ghost use Rattle.lk_model.specs.Resolving.{resolve};
 ghost use Rattle.lk_model.specs.Views.{Input, Resolved};
 ghost use Rattle.lk_model.specs.declared.layouts.Placement.{Placement as Place};
+ghost use Rattle.lk_model.specs.InputNames.{name_of};
+ghost use Rattle.lk_model.specs.InputNames.{input_summary};
+ghost use Rattle.lk_resolve.specs.Given.{found_in};
 ghost use Rattle.lk_image.specs.Tails.{described_of, recorded_summary};
-ghost use Rattle.lk_inputs.specs.Adding.{summary_of};
-ghost use Rattle.lk_inputs.specs.Named.{name_of};
-ghost use Rattle.lk_inputs.specs.Resolves.{found_in};
 ghost use Rattle.lk_records.specs.Occurrences.{OccurrencesAreRight};
 ghost use Rattle.lk_resolve.specs.Settling.{IsFound};
 
 use crate::placed_tails::{PlacedTail, place_tail};
 use lk_incr::tail;
-use lk_inputs::InputName;
+use lk_model::input_names::InputName;
 use lk_model::layouts::Placement;
 use lk_model::records::{InputRecord, InputRecordList, Records, ReferenceList};
 use lk_model::summaries::{InputSummary, SummaryList};
@@ -86,7 +86,7 @@ pub(crate) fn describe(
     placement: Placement,
 ) -> Result<Described, NoMemory>
     requires { length names.now ≡ length summaries }
-    ensures { (xs : List Input) → names.now ≡ map name_of xs → summaries ≡ map summary_of xs → OccurrencesAreRight xs → IsFound resolution.now (found_in options.now.entry xs) → references ≡ recorded_of (resolve options.now xs).references → IfOk result (λ described. described ≡ described_of (resolve options.now xs) placement) }
+    ensures { (xs : List Input) → names.now ≡ map name_of xs → summaries ≡ map input_summary xs → OccurrencesAreRight xs → IsFound resolution.now (found_in options.now.entry xs) → references ≡ recorded_of (resolve options.now xs).references → IfOk result (λ described. described ≡ described_of (resolve options.now xs) placement) }
 {
     let records = link_records(
         alloc, options, names, summaries, resolution, references, placement,

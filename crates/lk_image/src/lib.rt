@@ -12,7 +12,6 @@
 //! image (lk_law_writes), so each pass writes its own and knows nothing of the others.
 #![tactic(auto)]
 
-mod classes;
 mod described;
 mod images;
 mod limits;

@@ -10,11 +10,9 @@ ghost use Rattle.lk_symbol_values.specs.Sections.{low_64};
 
 use lk_headers::headers;
 use lk_model::layouts::{LayoutFault, Placement, SectionRowList};
+use lk_model::limits::MOST_IMAGE_BYTES;
 use lk_report::{Bytes, LimitFault, LimitKind, Status};
 use std::alloc::Global;
-
-/// The greatest length of an image in bytes: 512 MiB.
-const MOST_BYTES: u64 = 0x2000_0000;
 
 /// The headers, or why there are none, as a status.
 fn front_status(made: Result<Bytes, LayoutFault>) -> Result<Bytes, Status>
@@ -52,7 +50,7 @@ pub(crate) fn front(
 pub(crate) fn check_length(length: u64) -> Result<(), Status>
     ensures { LengthAnswers length result }
 {
-    if length > MOST_BYTES {
+    if length > MOST_IMAGE_BYTES {
         return Err(Status::Limit(LimitFault {
             which: LimitKind::Image,
             number: length,

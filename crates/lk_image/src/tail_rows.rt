@@ -5,8 +5,8 @@ ghost use Rattle.lk_model.specs.Amounts.{round_up};
 ghost use Rattle.lk_model.specs.FullPlace.{file_end};
 ghost use Rattle.lk_model.specs.Tail.{part_row, parts_end, parts_from};
 
-use crate::classes::in_file;
 use lk_incr::TailPart;
+use lk_model::classes::in_file;
 use lk_model::layouts::{Class, SectionKey, SectionRow, SectionRowList};
 use lk_report::{List, Name, NoMemory};
 use std::alloc::Global;

@@ -9,9 +9,7 @@ ghost use Rattle.lk_law_writes.specs.WrittenLaws.{AllEndWithin};
 
 use crate::placed_tails::PlacedTail;
 use lk_incr::TailPart;
-
-/// Where the seal is, which says that a commit ended.
-const SEAL_OFFSET: u64 = 4088;
+use lk_model::images::{SEAL, SEAL_OFFSET};
 
 /// Whether so many bytes from a place on lie in a file of `size` bytes.
 fn lies_in(size: usize, at: u64, count: usize) -> bool
@@ -45,7 +43,7 @@ pub(crate) fn put_front(image: &mut [u8], front: &[u8])
     ensures { AllEndWithin (length image.old) (front_writes front.now) → image.new ≡ written image.old (front_writes front.now) }
 {
     put(image, 0, front);
-    put(image, SEAL_OFFSET, b"LKSEAL01");
+    put(image, SEAL_OFFSET as u64, SEAL);
 }
 
 /// Writes a part of the tail at the next multiple of 8 after a place; where it ends.

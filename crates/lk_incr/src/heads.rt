@@ -9,7 +9,8 @@ ghost use Rattle.lk_incr.specs.Words.{words_of};
 
 use crate::text_table::TextTable;
 use crate::words::{Word, long, pair, put_words};
-use lk_model::layouts::{Class, SectionRow};
+use lk_model::classes::class_number;
+use lk_model::layouts::SectionRow;
 use lk_model::records::Records;
 use lk_report::{NoMemory, OptionRecord};
 
@@ -50,7 +51,7 @@ fn section_words(table: &TextTable<'_>, row: &SectionRow) -> [Word; 6]
 {
     let name = table.offset(row.key.name.as_slice());
     [
-        pair(name, class_number(row.key.class)),
+        pair(name, u64::from(class_number(row.key.class))),
         long(row.addr),
         long(row.offset),
         long(row.size),
@@ -84,21 +85,4 @@ pub(crate) fn bit(truth: bool) -> u64
     ensures small { result ≤ 1 }
 {
     if truth { 1 } else { 0 }
-}
-
-/// The number of a class.
-pub(crate) fn class_number(class: Class) -> u64
-    ensures value { result ≡ class_number class }
-    ensures small { result ≤ 7 }
-{
-    match class {
-        Class::R => 0,
-        Class::X => 1,
-        Class::W => 2,
-        Class::WX => 3,
-        Class::Tdata => 4,
-        Class::Tbss => 5,
-        Class::Bss => 6,
-        Class::N => 7,
-    }
 }

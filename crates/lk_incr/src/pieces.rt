@@ -6,10 +6,11 @@ ghost use Rattle.lk_model.specs.RecordFields.{spelled};
 ghost use Rattle.lk_model.specs.Texts.{offset_in};
 ghost use Rattle.lk_incr.specs.Words.{words_of};
 
-use crate::heads::{bit, class_number};
+use crate::heads::bit;
 use crate::placed_pieces::PlacedPieces;
 use crate::text_table::TextTable;
 use crate::words::{Word, long, pair, put_words};
+use lk_model::classes::class_number;
 use lk_model::layouts::PieceRow;
 use lk_model::summaries::PieceInfo;
 use lk_report::NoMemory;
@@ -79,6 +80,6 @@ fn piece_flags(piece: &PieceInfo, row: Option<PieceRow>) -> u64
 {
     match row {
         Some(_) => 1 + 2 * bit(piece.terminator),
-        None => 2 * bit(piece.terminator) + 256 * class_number(piece.key.class),
+        None => 2 * bit(piece.terminator) + 256 * u64::from(class_number(piece.key.class)),
     }
 }

@@ -1,32 +1,27 @@
 -- The refusals of these passes are lk_model's answer of a static link.
-use Rattle.std.proofs.Common.{◌≡◌, ◌<◌, ◌≤◌, ◌^◌, refl, sym, ap, ◌∙◌, arith, ℕ, nat_lt, Bool, true, false, List, [], ◌∷◌, length, Option, Some, None, Result, Ok, Err}
-use Rattle.std.specs.Prelude.{if◌then◌else◌}
-use Rattle.std.proofs.lemmas.Bool.{le-ltb, lt-ltb}
+use Rattle.std.proofs.Common.{◌≡◌, ◌<◌, ◌≤◌, ◌^◌, refl, sym, ap, ◌∙◌, arith, ℕ, List, [], ◌∷◌, length, Option, Some, None}
 use Rattle.lk_report.specs.FileMap.{FileMap}
 use Rattle.lk_report.specs.declared.faults.Fault.{Fault}
 use Rattle.lk_report.specs.declared.statuses.LimitFault.{LimitFault}
-use Rattle.lk_report.specs.declared.statuses.LimitKind.{LimitKind}
 use Rattle.lk_report.specs.declared.statuses.LimitKind.TheVariants as limit
 use Rattle.lk_report.specs.declared.statuses.Status.{Status}
 use Rattle.lk_report.specs.declared.statuses.Status.TheVariants as status
 use Rattle.lk_report.specs.declared.causes.OptionRecord.{OptionRecord}
 use Rattle.lk_model.specs.declared.commands.Command.{Command}
-use Rattle.lk_model.specs.Answers.{command_answer, fault_status, input_faults, limit_fault, needs_wait, placed_answer, resolved_answer, shared_waits, size_limit, words_wait}
-use Rattle.lk_model.specs.FullPlace.{full_place}
+use Rattle.lk_model.specs.Answers.{command_answer, fault_status, input_faults, limit_fault, resolved_answer, shared_waits, size_limit, words_wait}
 use Rattle.lk_model.specs.Inputs.{inputs_of, missing_of}
 use Rattle.lk_model.specs.Finding.{found_of}
 use Rattle.lk_model.specs.Links.{resolved_of}
 use Rattle.lk_model.specs.ResolveFaults.{faults_of, name_count, resolve_faults}
 use Rattle.lk_model.specs.Resolving.{resolve}
-use Rattle.lk_model.specs.ScanFaults.{scan_faults}
 use Rattle.lk_model.specs.Views.{Input, Resolved}
 use Rattle.lk_model.proofs.Finding.{found_in-resolve}
-use Rattle.lk_resolve.specs.Settling.{SettleGives, ResolutionValue, most_names, names_limit}
+use Rattle.lk_resolve.specs.Given.{found_in}
+use Rattle.lk_resolve.specs.Settling.{most_names}
 use Rattle.lk_resolve.specs.declared.settle_faults.SettleFault.TheVariants as settle
 use Rattle.lk_inputs.specs.AnswerLaws.{FaultsAreTheModels, LimitIsTheModels, RefusalsAreTheModels, ResolutionGoesOn, answer_unless, scanned_answer}
 use Rattle.lk_inputs.specs.LookUps.{inputs_limit}
 use Rattle.lk_inputs.specs.Refusals.{files_refusal, inputs_refusal}
-use Rattle.lk_inputs.specs.Resolves.{found_in}
 
 -- one refusal after another
 or_later : Option Status → Option Status → Option Status
@@ -61,12 +56,6 @@ names_counted options xs = refl
 pub faults_reported_of : (options : OptionRecord) (xs : List Input) → resolve_faults (resolve options xs) ≡ faults_of (found_in options.entry xs)
 unfolding resolve_faults
 faults_reported_of options xs = ap faults_of (found_in-resolve options xs)
-
-pub above : (which : LimitKind) (most n : ℕ) → most < n → limit_fault which most n ≡ Some (status.Limit (record { which = which; number = n }))
-above which most n h = ap (λ b. if b then Some (status.Limit (record { which = which; number = n })) else None) (lt-ltb most n h)
-
-pub below : (which : LimitKind) (most n : ℕ) → n ≤ most → limit_fault which most n ≡ None
-below which most n h = ap (λ b. let o : Option Status = if b then Some (status.Limit (record { which = which; number = n })) else None in o) (le-ltb most n h)
 
 pub some_faults : (faults : List Fault) → 0 < length faults → fault_status faults ≡ Some (status.LinkError faults)
 some_faults [] h = absurd (omega arith)

@@ -19,7 +19,7 @@ use Rattle.lk_model.specs.Inputs.{input_words, inputs_of, missing_in, missing_of
 use Rattle.lk_model.specs.Resolving.{paths_of}
 use Rattle.lk_outside.specs.FilesState.{FilesState}
 use Rattle.lk_inputs.specs.declared.input_files.InputFile.{InputFile}
-use Rattle.lk_inputs.specs.declared.input_names.InputName.{InputName}
+use Rattle.lk_model.specs.declared.input_names.InputName.{InputName}
 use Rattle.lk_inputs.specs.declared.inputs.Inputs.{Inputs}
 use Rattle.lk_inputs.specs.Asked.{Asked, AskedSome, CommandAsked, FaultsAsked, FilesAsked, FrontAsked, LookUpsAsked, Paths, StatusNamed, file_name, is_missing, look_ups_of, name_path, paths_read, reads_before, known_stats}
 use Rattle.lk_inputs.specs.FilesRead.{NamedGive, fault_in, files_at, files_refused, first_shared, shared_wait, size_limit_at, sizes_limit}

@@ -12,7 +12,7 @@ use Rattle.lk_report.specs.declared.statuses.Waiting.TheVariants as waiting
 use Rattle.lk_model.specs.declared.summaries.InputSummary.{InputSummary}
 use Rattle.lk_outside.specs.FilesState.{FilesState}
 use Rattle.lk_inputs.specs.declared.input_files.InputFile.{InputFile}
-use Rattle.lk_inputs.specs.declared.input_names.InputName.{InputName}
+use Rattle.lk_model.specs.declared.input_names.InputName.{InputName}
 use Rattle.lk_inputs.specs.declared.inputs.Inputs.{Inputs}
 use Rattle.lk_inputs.specs.Asked.{AskedInTurn, FaultsAsked, FilesAsked, FrontAsked, IsOfFiles, IsOfObjects, IsOfReads, MissesReported, Paths, StatusLast, StatusMisses, StatusNamed, known_failed, file_name, is_missing, name_path}
 use Rattle.lk_inputs.specs.FilesRead.{are_names_there, files_at, is_name_there, size_limit_at, sizes_limit}

@@ -26,9 +26,9 @@ use Rattle.lk_model.specs.ObjectChecks.{object_fault}
 use Rattle.lk_model.specs.Objects.{summary_in}
 use Rattle.lk_model.specs.Resolving.{paths_of}
 use Rattle.lk_model.specs.Views.{Elf, Input}
+use Rattle.lk_model.specs.InputNames.{input_summary}
 use Rattle.lk_inputs.specs.declared.input_files.InputFile.{InputFile}
-use Rattle.lk_inputs.specs.declared.input_names.InputName.{InputName}
-use Rattle.lk_inputs.specs.Adding.{summary_of}
+use Rattle.lk_model.specs.declared.input_names.InputName.{InputName}
 use Rattle.lk_inputs.specs.FilesRead.{are_names_there, fault_in, file_at, files_at, first_shared, is_name_there, is_shared_file, shared_wait, size_limit_at, sizes_limit, sound_summary}
 use Rattle.lk_inputs.specs.FilesRead.{summary_of as summary_read}
 use Rattle.lk_inputs.specs.Named.{file_of, file_path, files_of, name_found, named_in, names_in}
@@ -143,7 +143,7 @@ read_shared lib r = by (lib == 0)
     by true = kind_is_shared r
     by false = refl
 
-summaries_after : (earlier : List (List ℕ)) (founds : List FoundInput) → shared_waits (inputs_after earlier founds) ≡ None → map summary_read (files_of (inputs_after earlier founds)) ≡ map summary_of (inputs_after earlier founds)
+summaries_after : (earlier : List (List ℕ)) (founds : List FoundInput) → shared_waits (inputs_after earlier founds) ≡ None → map summary_read (files_of (inputs_after earlier founds)) ≡ map input_summary (inputs_after earlier founds)
 unfolding inputs_after elf_of elf.elf_under elf.elf_with
 summaries_after earlier [] h = refl
 summaries_after earlier (found ∷ founds) h =
@@ -152,7 +152,7 @@ summaries_after earlier (found ∷ founds) h =
     let not_shared : (found.lib == 0 && is_shared_result (kind_of found.file.bytes)) ≡ false = read_shared found.lib (kind_of found.file.bytes) ∙ none.0 in
     λ i. sym (ap (λ b. summary_by b found.path (elf_of found.file.bytes)) not_shared) i ∷ summaries_after (found.path ∷ earlier) founds none.1 i
 
-pub summaries_are : (command : Command) (there : FileMap) → shared_waits (inputs_of command there) ≡ None → map summary_read (files_of (inputs_of command there)) ≡ map summary_of (inputs_of command there)
+pub summaries_are : (command : Command) (there : FileMap) → shared_waits (inputs_of command there) ≡ None → map summary_read (files_of (inputs_of command there)) ≡ map input_summary (inputs_of command there)
 unfolding inputs_of
 summaries_are command there h = summaries_after [] (filter_map (found_in command there) (input_words command)) h
 

@@ -9,16 +9,17 @@ use Rattle.lk_model.specs.Adding.{added_inputs, is_wanted_member, items_among, i
 use Rattle.lk_model.specs.Numbered.{Numbered, numbered_from}
 use Rattle.lk_model.specs.Queues.{listed_of}
 use Rattle.lk_model.specs.Views.{Input}
+use Rattle.lk_model.specs.InputNames.{input_summary}
 use Rattle.lk_resolve.specs.Searches.{numbered_on}
 use Rattle.lk_resolve.specs.States.{State, state_of}
 use Rattle.lk_inputs.specs.declared.input_files.InputFile.{InputFile}
-use Rattle.lk_inputs.specs.Adding.{IsItemAdded, is_in_lib, item_at, lib_length, members_in, rows_from, summary_of}
+use Rattle.lk_inputs.specs.Adding.{IsItemAdded, is_in_lib, item_at, lib_length, members_in, rows_from}
 use Rattle.lk_inputs.specs.Named.{files_of}
 
 -- ---- inputs in rows
 
 -- the rows of inputs are their numbers with their lib groups
-pub rows_are : (n : ℕ) (xs : List Input) → rows_from n (files_of xs) (map summary_of xs) ≡ numbered_from n xs
+pub rows_are : (n : ℕ) (xs : List Input) → rows_from n (files_of xs) (map input_summary xs) ≡ numbered_from n xs
 rows_are n [] = refl
 rows_are n (x ∷ xs) = ap (λ (rows : List (ℕ × Numbered)). (x.lib, record { number = n; summary = x.summary }) ∷ rows) (rows_are (n + 1) xs)
 
@@ -214,7 +215,7 @@ item_more entry paths before files left summaries others rows done count now new
     }
 
 pub all_added : (entry : List ℕ) (paths : List (List ℕ)) (xs : List Input) (files : List InputFile) (summaries : List InputSummary) (done : ℕ) (now : Option State)
-    → files ≡ files_of xs → summaries ≡ map summary_of xs → length files ≤ done
+    → files ≡ files_of xs → summaries ≡ map input_summary xs → length files ≤ done
     → AddedSoFar entry paths [] (rows_from 0 files summaries) (rows_from done (drop done files) (drop done summaries)) now
     → now ≡ Some (state_of entry paths (added_inputs entry xs))
 unfolding added_inputs

@@ -17,23 +17,24 @@ use Rattle.lk_model.specs.Answers.{fault_status, input_faults, limit_fault, shar
 use Rattle.lk_model.specs.Finding.{Found}
 use Rattle.lk_model.specs.Inputs.{input_words, inputs_of, is_there, missing_in, missing_of, path_of, places_of}
 use Rattle.lk_model.specs.Views.{Input}
+use Rattle.lk_model.specs.InputNames.{input_summary}
+use Rattle.lk_resolve.specs.Given.{found_in}
 use Rattle.lk_resolve.specs.Settling.{SettleGives, ResolutionValue}
 use Rattle.lk_resolve.specs.declared.settle_faults.SettleFault.{SettleFault}
 use Rattle.lk_resolve.specs.declared.settle_faults.SettleFault.TheVariants as settle
 use Rattle.lk_inputs.specs.declared.input_files.InputFile.{InputFile}
-use Rattle.lk_inputs.specs.declared.input_names.InputName.{InputName}
+use Rattle.lk_model.specs.declared.input_names.InputName.{InputName}
 use Rattle.lk_inputs.specs.declared.input_words.InputWord.{InputWord}
 use Rattle.lk_inputs.specs.declared.inputs.Inputs.{Inputs}
 use Rattle.lk_inputs.specs.declared.look_ups.FoundFile.{FoundFile}
 use Rattle.lk_inputs.specs.declared.summaries.Judged.{Judged}
 use Rattle.lk_inputs.specs.declared.word_look_ups.Sought.{Sought}
-use Rattle.lk_inputs.specs.Adding.{summary_of}
 use Rattle.lk_inputs.specs.FilesRead.{AreJudged, NamedGive, NamedRefused, are_names_there, fault_in, files_at, files_refused, shared_wait, sizes_limit}
 use Rattle.lk_inputs.specs.FilesRead.{summary_of as summary_read}
 use Rattle.lk_inputs.specs.LookUps.{AreSought, FirstPlaceReported, LookUpsGive, SoughtGives, inputs_limit}
 use Rattle.lk_inputs.specs.Named.{files_of, named_in, names_in, words_seen}
 use Rattle.lk_inputs.specs.Refusals.{AreInputs, CommandInputs, InputsGive, IsRefusal, files_refusal, inputs_refusal}
-use Rattle.lk_inputs.specs.Resolves.{CommandResolves, InputsResolve, IsReported, IsFirstRefusal, SettlesAs, found_in, settle_status}
+use Rattle.lk_inputs.specs.Resolves.{CommandResolves, InputsResolve, IsReported, IsFirstRefusal, SettlesAs, settle_status}
 use Rattle.lk_inputs.proofs.InputsReported.{all_sound, faults_are, files_are, names_are_there, names_one_by_one, shared_are, sizes_are, summaries_are}
 use Rattle.lk_inputs.proofs.WordsSought.{found_named}
 
@@ -233,7 +234,7 @@ settles_as found (Err (settle.Limit l)) h = h
 settles_as found (Err settle.NoMemory) h = tt
 
 resolved_at : (command : Command) (there : FileMap) (o : Option Status) (inputs : Inputs) (r : Result ResolutionValue SettleFault) → CommandInputs o command there (Ok inputs)
-    → ((xs : List Input) → inputs.files ≡ files_of xs → inputs.summaries ≡ map summary_of xs → SettleGives (found_in command.options.entry xs) r)
+    → ((xs : List Input) → inputs.files ≡ files_of xs → inputs.summaries ≡ map input_summary xs → SettleGives (found_in command.options.entry xs) r)
     → CommandResolves o command there (as_status r)
 resolved_at command there (Some due) inputs r h gives = absurd h
 resolved_at command there None inputs r h gives =
@@ -241,7 +242,7 @@ resolved_at command there None inputs r h gives =
     subst P (sym h.0) (settles_as (found_in command.options.entry (inputs_of command there)) r (gives (inputs_of command there) h.1.files h.1.summaries))
 
 pub resolved : (command : Command) (there : FileMap) (inputs : Inputs) (r : Result ResolutionValue SettleFault) (resolution : ResolutionValue) → CommandInputs (inputs_limit command) command there (Ok inputs)
-    → ((xs : List Input) → inputs.files ≡ files_of xs → inputs.summaries ≡ map summary_of xs → SettleGives (found_in command.options.entry xs) r)
+    → ((xs : List Input) → inputs.files ≡ files_of xs → inputs.summaries ≡ map input_summary xs → SettleGives (found_in command.options.entry xs) r)
     → r ≡ Ok resolution → CommandResolves (inputs_limit command) command there (Ok resolution)
 unfolding as_status
 resolved command there inputs r resolution h gives is =
@@ -249,7 +250,7 @@ resolved command there inputs r resolution h gives is =
     subst R (ap as_status is) (resolved_at command there (inputs_limit command) inputs r h gives)
 
 pub unresolved : (command : Command) (there : FileMap) (inputs : Inputs) (r : Result ResolutionValue SettleFault) (fault : SettleFault) (s : Status) → CommandInputs (inputs_limit command) command there (Ok inputs)
-    → ((xs : List Input) → inputs.files ≡ files_of xs → inputs.summaries ≡ map summary_of xs → SettleGives (found_in command.options.entry xs) r)
+    → ((xs : List Input) → inputs.files ≡ files_of xs → inputs.summaries ≡ map input_summary xs → SettleGives (found_in command.options.entry xs) r)
     → r ≡ Err fault → s ≡ settle_status fault → CommandResolves (inputs_limit command) command there (Err s)
 unfolding as_status
 unresolved command there inputs r fault s h gives is reported =

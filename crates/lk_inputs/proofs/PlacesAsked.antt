@@ -14,7 +14,7 @@ use Rattle.lk_model.specs.declared.commands.Command.{Command}
 use Rattle.lk_model.specs.declared.commands.Word.{Word}
 use Rattle.lk_model.specs.Inputs.{input_words, is_there}
 use Rattle.lk_outside.specs.FilesState.{FilesState}
-use Rattle.lk_inputs.specs.declared.input_names.InputName.{InputName}
+use Rattle.lk_model.specs.declared.input_names.InputName.{InputName}
 use Rattle.lk_inputs.specs.declared.input_words.InputWord.{InputWord}
 use Rattle.lk_inputs.specs.declared.look_ups.FoundFile.{FoundFile}
 use Rattle.lk_inputs.specs.declared.unread.Unread.{Unread}

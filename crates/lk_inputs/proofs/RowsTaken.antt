@@ -9,7 +9,7 @@ use Rattle.lk_model.specs.declared.commands.Command.{Command}
 use Rattle.lk_model.specs.declared.commands.Word.{Word}
 use Rattle.lk_model.specs.Inputs.{path_of}
 use Rattle.lk_outside.specs.FilesState.{FilesState}
-use Rattle.lk_inputs.specs.declared.input_names.InputName.{InputName}
+use Rattle.lk_model.specs.declared.input_names.InputName.{InputName}
 use Rattle.lk_inputs.specs.declared.input_words.InputWord.{InputWord}
 use Rattle.lk_inputs.specs.Asked.{FrontAsked, MissesReported, OneMisses, Paths, is_missing, word_look_ups, word_places, words_look_ups, words_places}
 use Rattle.lk_inputs.specs.LookUps.{WordReported}

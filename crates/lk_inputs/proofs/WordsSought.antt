@@ -11,7 +11,7 @@ use Rattle.lk_report.specs.declared.stamps.Stamp.{Stamp}
 use Rattle.lk_model.specs.declared.commands.Command.{Command}
 use Rattle.lk_model.specs.declared.commands.Word.{Word}
 use Rattle.lk_model.specs.Inputs.{FoundInput, found_at, found_in, is_there, missing_in, missing_path, path_of, places_of}
-use Rattle.lk_inputs.specs.declared.input_names.InputName.{InputName}
+use Rattle.lk_model.specs.declared.input_names.InputName.{InputName}
 use Rattle.lk_inputs.specs.Named.{name_found, named_in}
 use Rattle.lk_inputs.specs.FileAnswers.{stamp_at}
 

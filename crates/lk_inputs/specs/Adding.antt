@@ -1,16 +1,11 @@
 -- This project's own: the inputs of a link, file by file with its summary, and how one item of them is
 -- added: an input outside a lib group, or a lib group.
-use Rattle.std.specs.Prelude.{◌≡◌, ◌+◌, ◌<◌, ◌==◌, ℕ, Bool, List, [], ◌∷◌, map, take, drop, length, take_while, Option, Some}
+use Rattle.std.specs.Prelude.{◌≡◌, ◌+◌, ◌==◌, ℕ, Bool, List, [], ◌∷◌, map, take, drop, length, take_while, Option, Some}
 use Rattle.lk_model.specs.declared.summaries.InputSummary.{InputSummary}
 use Rattle.lk_model.specs.Adding.{items_among, with_item}
 use Rattle.lk_model.specs.Numbered.{Numbered}
-use Rattle.lk_model.specs.Views.{Input}
 use Rattle.lk_inputs.specs.declared.input_files.InputFile.{InputFile}
 use Rattle.lk_resolve.specs.States.{State, state_of}
-
--- what a link keeps of an input
-abbrev pub summary_of : Input → InputSummary
-summary_of x = x.summary
 
 -- inputs with their numbers, which go on from a first one, and their lib groups
 abbrev pub rows_from : ℕ → List InputFile → List InputSummary → List (ℕ × Numbered)

@@ -1,5 +1,5 @@
 -- This project's own: what the refusals of these passes have to do with lk_model's answer of a static link.
-use Rattle.std.specs.Prelude.{◌≡◌, List, Option, Some, None, Result, Ok, Err}
+use Rattle.std.specs.Prelude.{◌≡◌, List, Option, Some, None, Ok, Err}
 use Rattle.lk_report.specs.FileMap.{FileMap}
 use Rattle.lk_report.specs.declared.faults.Fault.{Fault}
 use Rattle.lk_report.specs.declared.statuses.LimitFault.{LimitFault}
@@ -12,11 +12,11 @@ use Rattle.lk_model.specs.Inputs.{inputs_of}
 use Rattle.lk_model.specs.Links.{resolved_of}
 use Rattle.lk_model.specs.ScanFaults.{scan_faults}
 use Rattle.lk_model.specs.Views.{Resolved}
+use Rattle.lk_resolve.specs.Given.{found_in}
 use Rattle.lk_resolve.specs.Settling.{SettleGives, ResolutionValue}
 use Rattle.lk_resolve.specs.declared.settle_faults.SettleFault.TheVariants as settle
 use Rattle.lk_inputs.specs.LookUps.{inputs_limit}
 use Rattle.lk_inputs.specs.Refusals.{inputs_refusal}
-use Rattle.lk_inputs.specs.Resolves.{found_in}
 
 -- a refusal, or what is answered where there is none
 abbrev pub answer_unless : Option Status → Status → Status

@@ -23,7 +23,7 @@ use Rattle.lk_inputs.specs.LookUps.{inputs_limit}
 use Rattle.lk_inputs.specs.Named.{names_in}
 use Rattle.lk_inputs.specs.FileAnswers.{known_reads, reads_with}
 use Rattle.lk_inputs.specs.declared.input_files.InputFile.{InputFile}
-use Rattle.lk_inputs.specs.declared.input_names.InputName.{InputName}
+use Rattle.lk_model.specs.declared.input_names.InputName.{InputName}
 use Rattle.lk_inputs.specs.declared.inputs.Inputs.{Inputs}
 use Rattle.lk_inputs.specs.declared.unread.Unread.{Unread}
 use Rattle.lk_inputs.specs.declared.unread.Unread.TheVariants as unread

@@ -18,7 +18,7 @@ use Rattle.lk_model.specs.Kinds.{kind_of}
 use Rattle.lk_model.specs.ObjectChecks.{object_fault}
 use Rattle.lk_model.specs.Objects.{summary_in}
 use Rattle.lk_inputs.specs.declared.input_files.InputFile.{InputFile}
-use Rattle.lk_inputs.specs.declared.input_names.InputName.{InputName}
+use Rattle.lk_model.specs.declared.input_names.InputName.{InputName}
 use Rattle.lk_inputs.specs.declared.inputs.Inputs.{Inputs}
 use Rattle.lk_inputs.specs.declared.summaries.Judged.{Judged}
 use Rattle.lk_inputs.specs.FileAnswers.{content_at}

@@ -8,7 +8,7 @@ use Rattle.lk_model.specs.declared.commands.Command.{Command}
 use Rattle.lk_model.specs.declared.commands.Word.{Word}
 use Rattle.lk_model.specs.Answers.{limit_fault}
 use Rattle.lk_model.specs.Inputs.{input_words, is_there, missing_in, missing_of, path_of}
-use Rattle.lk_inputs.specs.declared.input_names.InputName.{InputName}
+use Rattle.lk_model.specs.declared.input_names.InputName.{InputName}
 use Rattle.lk_inputs.specs.declared.look_ups.FoundFile.{FoundFile}
 use Rattle.lk_inputs.specs.declared.word_look_ups.Sought.{Sought}
 use Rattle.lk_inputs.specs.declared.unread.Unread.{Unread}

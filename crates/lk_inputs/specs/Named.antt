@@ -4,9 +4,10 @@ use Rattle.lk_report.specs.FileMap.{FileMap}
 use Rattle.lk_model.specs.declared.commands.Command.{Command}
 use Rattle.lk_model.specs.declared.commands.Word.{Word}
 use Rattle.lk_model.specs.Inputs.{FoundInput, found_in, input_words}
+use Rattle.lk_model.specs.InputNames.{name_of}
 use Rattle.lk_model.specs.Views.{Input}
 use Rattle.lk_inputs.specs.declared.input_files.InputFile.{InputFile}
-use Rattle.lk_inputs.specs.declared.input_names.InputName.{InputName}
+use Rattle.lk_model.specs.declared.input_names.InputName.{InputName}
 use Rattle.lk_inputs.specs.declared.input_words.InputWord.{InputWord}
 
 -- an input's word with the number of its lib group
@@ -32,10 +33,7 @@ named_in command there row = option_map name_found (found_in command there row)
 abbrev pub names_in : Command → FileMap → List InputName
 names_in command there = map name_found (filter_map (found_in command there) (input_words command))
 
--- what code holds of an input: its name, and that with the file's bytes
-abbrev pub name_of : Input → InputName
-name_of x = record { path = x.path; lib = x.lib; mark = x.mark; stamp = x.stamp }
-
+-- what code has of an input: its name with the file's bytes
 abbrev pub file_of : Input → InputFile
 file_of x = record { name = name_of x; bytes = x.elf.bytes }
 

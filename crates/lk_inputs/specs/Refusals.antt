@@ -8,8 +8,8 @@ use Rattle.lk_model.specs.declared.commands.Command.{Command}
 use Rattle.lk_model.specs.Answers.{fault_status, input_faults, shared_waits, size_limit}
 use Rattle.lk_model.specs.Inputs.{inputs_of, missing_of}
 use Rattle.lk_model.specs.Views.{Input}
+use Rattle.lk_model.specs.InputNames.{input_summary}
 use Rattle.lk_inputs.specs.declared.inputs.Inputs.{Inputs}
-use Rattle.lk_inputs.specs.Adding.{summary_of}
 use Rattle.lk_inputs.specs.Named.{files_of}
 
 -- why inputs that are there are not resolved
@@ -34,7 +34,7 @@ IsRefusal due s = due ≡ Some s
 -- these are the files and the summaries of inputs
 pub record AreInputs (xs : List Input) (inputs : Inputs) : Type 0 where
   pub files : inputs.files ≡ files_of xs
-  pub summaries : inputs.summaries ≡ map summary_of xs
+  pub summaries : inputs.summaries ≡ map input_summary xs
 
 -- what reading the inputs of a command answers, where there are not too many of them
 abbrev pub InputsGive : Command → FileMap → Result Inputs Status → Type 0

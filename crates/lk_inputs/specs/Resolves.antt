@@ -5,22 +5,15 @@ use Rattle.lk_report.specs.FileMap.{FileMap}
 use Rattle.lk_report.specs.declared.statuses.Status.{Status}
 use Rattle.lk_report.specs.declared.statuses.Status.TheVariants as status
 use Rattle.lk_model.specs.declared.commands.Command.{Command}
-use Rattle.lk_model.specs.Adding.{added_inputs}
-use Rattle.lk_model.specs.Finding.{Found, found_of}
+use Rattle.lk_model.specs.Finding.{Found}
 use Rattle.lk_model.specs.Grammar.{grammar}
 use Rattle.lk_model.specs.Inputs.{inputs_of}
-use Rattle.lk_model.specs.Resolving.{paths_of}
-use Rattle.lk_model.specs.Views.{Input}
 use Rattle.lk_outside.specs.FilesState.{FilesState}
 use Rattle.lk_resolve.specs.Settling.{SettleGives, ResolutionValue}
 use Rattle.lk_resolve.specs.declared.settle_faults.SettleFault.{SettleFault}
 use Rattle.lk_resolve.specs.declared.settle_faults.SettleFault.TheVariants as settle
 use Rattle.lk_inputs.specs.LookUps.{inputs_limit}
 use Rattle.lk_inputs.specs.Refusals.{inputs_refusal}
-
--- what the inputs of a link decide
-abbrev pub found_in : List ℕ → List Input → Found
-found_in entry xs = found_of (paths_of xs) entry (added_inputs entry xs)
 
 -- what settling answers, as a status; a failed read may be in its place
 abbrev pub SettlesAs : Found → Result ResolutionValue Status → Type 0

@@ -5,7 +5,8 @@ ghost use Rattle.std.specs.Prelude.{◌≡◌, ◌+◌, ◌<◌, ◌≤◌, ◌^
 ghost use Rattle.lk_model.specs.Adding.{added_inputs};
 ghost use Rattle.lk_model.specs.Numbered.{Numbered};
 ghost use Rattle.lk_model.specs.Views.{Input};
-ghost use Rattle.lk_inputs.specs.Adding.{IsItemAdded, lib_length, rows_from, summary_of};
+ghost use Rattle.lk_model.specs.InputNames.{input_summary};
+ghost use Rattle.lk_inputs.specs.Adding.{IsItemAdded, lib_length, rows_from};
 ghost use Rattle.lk_inputs.specs.Named.{files_of};
 ghost use Rattle.lk_resolve.specs.States.{state_of};
 
@@ -57,7 +58,7 @@ pub fn add_inputs(
     summaries: &[InputSummary],
 ) -> Result<(), NoMemory>
     requires { length files.now ≡ length summaries.now }
-    ensures { (entry : List ℕ) (paths : List (List ℕ)) (xs : List Input) → files.now ≡ files_of xs → summaries.now ≡ map summary_of xs → resolver.old ≡ Some (state_of entry paths []) → OnOk result (resolver.new ≡ Some (state_of entry paths (added_inputs entry xs))) }
+    ensures { (entry : List ℕ) (paths : List (List ℕ)) (xs : List Input) → files.now ≡ files_of xs → summaries.now ≡ map input_summary xs → resolver.old ≡ Some (state_of entry paths []) → OnOk result (resolver.new ≡ Some (state_of entry paths (added_inputs entry xs))) }
 {
     if files.len() > u32::MAX as usize {
         return Err(NoMemory);

@@ -1,6 +1,6 @@
 //! An input as it was read.
 
-use crate::input_names::InputName;
+use lk_model::input_names::InputName;
 use lk_report::{Bytes, List};
 
 /// An input and the bytes of its file.

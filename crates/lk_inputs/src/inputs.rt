@@ -12,12 +12,12 @@ ghost use Rattle.lk_inputs.specs.Refusals.{CommandInputs};
 ghost use Rattle.lk_inputs.specs.FileAnswers.{StatusCounts, known_map, known_reads, reads_with};
 
 use crate::input_files::{InputFile, InputFileList};
-use crate::input_names::InputNameList;
 use crate::reading::read_inputs;
 use crate::shared_inputs::first_shared;
 use crate::summaries::read_summaries;
 use crate::word_look_ups::look_up_inputs;
 use lk_model::commands::Command;
+use lk_model::input_names::InputNameList;
 use lk_model::summaries::SummaryList;
 use lk_outside::Files;
 use lk_report::{NoMemory, Status, Waiting};

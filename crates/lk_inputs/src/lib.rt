@@ -16,7 +16,6 @@
 
 mod adding;
 mod input_files;
-mod input_names;
 mod input_words;
 mod inputs;
 mod laws;
@@ -32,7 +31,6 @@ mod words;
 
 pub use adding::add_inputs;
 pub use input_files::{InputFile, InputFileList};
-pub use input_names::{InputName, InputNameList};
 pub use inputs::{Inputs, read_command};
 pub use laws::answers_are_the_models;
 pub use reading::read_inputs;

@@ -8,18 +8,13 @@ ghost use Rattle.lk_inputs.specs.FilesRead.{ContentReported, IsGone, ReadsGive, 
 ghost use Rattle.lk_inputs.specs.FileAnswers.{ReadCounts, ReadNoted, ReadReported, StatusCounts, known_map, known_reads, reads_with};
 
 use crate::input_files::{InputFile, InputFileList};
-use crate::input_names::InputNameList;
 use crate::look_ups::failed_at;
 use crate::unread::status_of;
+use lk_model::input_names::InputNameList;
+use lk_model::limits::{MOST_INPUT_BYTES, MOST_TOTAL_BYTES};
 use lk_outside::{Files, ReadAnswer};
 use lk_report::{Bytes, Fault, FaultList, LimitFault, LimitKind, List, Name, NoMemory, Status};
 use std::alloc::Global;
-
-/// A file may have so many bytes: 64 MiB.
-const MOST_BYTES: u64 = 0x400_0000;
-
-/// All files together may have so many bytes: 1 GiB.
-const MOST_TOTAL: u64 = 0x4000_0000;
 
 /// The bytes that are read with one more file of this length.
 ///
@@ -32,14 +27,14 @@ fn total_with(before: u64, length: u64) -> Result<u64, LimitFault>
     ensures each { OnOk result (length ≤ 2 ^ 26) }
     ensures sizes { IfErr result (λ l. l.which ≡ LimitKind.Inputs → ⊥) }
 {
-    if length > MOST_BYTES {
+    if length > MOST_INPUT_BYTES {
         return Err(LimitFault {
             which: LimitKind::InputSize,
             number: length,
         });
     }
     let total = before + length;
-    if total > MOST_TOTAL {
+    if total > MOST_TOTAL_BYTES {
         return Err(LimitFault {
             which: LimitKind::InputTotal,
             number: total,

@@ -3,11 +3,11 @@
 ghost use Rattle.std.specs.Prelude.{◌≡◌, ℕ, List, [], length, map, Some, IfOk};
 ghost use Rattle.lk_model.specs.Views.{Input};
 ghost use Rattle.lk_model.specs.Adding.{added_inputs};
+ghost use Rattle.lk_model.specs.InputNames.{input_summary};
+ghost use Rattle.lk_resolve.specs.Given.{found_in};
 ghost use Rattle.lk_resolve.specs.Settling.{SettleGives};
 ghost use Rattle.lk_resolve.specs.States.{state_of};
-ghost use Rattle.lk_inputs.specs.Adding.{summary_of};
 ghost use Rattle.lk_inputs.specs.Named.{files_of, file_path};
-ghost use Rattle.lk_inputs.specs.Resolves.{found_in};
 
 use crate::adding::add_inputs;
 use crate::input_files::InputFile;
@@ -35,7 +35,7 @@ fn resolver_of(
     summaries: &[InputSummary],
 ) -> Result<Resolver, NoMemory>
     requires { length files.now ≡ length summaries.now }
-    ensures { (xs : List Input) → files.now ≡ files_of xs → summaries.now ≡ map summary_of xs → IfOk result (λ resolver. resolver ≡ Some (state_of entry.now (map file_path files.now) (added_inputs entry.now xs))) }
+    ensures { (xs : List Input) → files.now ≡ files_of xs → summaries.now ≡ map input_summary xs → IfOk result (λ resolver. resolver ≡ Some (state_of entry.now (map file_path files.now) (added_inputs entry.now xs))) }
 {
     let paths = paths_of(alloc, files)?;
     let mut resolver = Resolver::new(alloc, entry)?;
@@ -55,7 +55,7 @@ pub fn resolve_inputs(
     summaries: &[InputSummary],
 ) -> Result<Resolution, SettleFault>
     requires { length files.now ≡ length summaries.now }
-    ensures resolution { (xs : List Input) → files.now ≡ files_of xs → summaries.now ≡ map summary_of xs → SettleGives (found_in entry.now xs) result }
+    ensures resolution { (xs : List Input) → files.now ≡ files_of xs → summaries.now ≡ map input_summary xs → SettleGives (found_in entry.now xs) result }
     ensures paths { IfOk result (λ resolution. resolution.paths ≡ map file_path files.now) }
 {
     match resolver_of(alloc, entry, files, summaries) {

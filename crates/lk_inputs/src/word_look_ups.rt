@@ -9,18 +9,16 @@ ghost use Rattle.lk_inputs.specs.LookUps.{LookUpsGive, SoughtGives, WordReported
 ghost use Rattle.lk_inputs.specs.Named.{word_seen, words_seen};
 ghost use Rattle.lk_inputs.specs.FileAnswers.{StatusCounts, UnreadCounts, known_map, known_reads};
 
-use crate::input_names::{InputName, InputNameList};
 use crate::input_words::{InputWord, input_words};
 use crate::look_ups::{FoundFile, first_place};
 use crate::places::{missing_path, places_of};
 use crate::unread::{Unread, status_of};
 use lk_model::commands::{Command, Word};
+use lk_model::input_names::{InputName, InputNameList};
+use lk_model::limits::MOST_INPUTS;
 use lk_outside::Files;
 use lk_report::{Fault, FaultList, LimitFault, LimitKind, List, NoMemory, Status};
 use std::alloc::Global;
-
-/// A link may have so many inputs.
-const MOST_INPUTS: usize = 4096;
 
 /// What the look-ups of words found.
 #[derive(Drop)]
@@ -154,7 +152,7 @@ pub fn look_up_inputs<F: Files>(
         return Err(Status::NoMemory);
     };
     let count = rows.as_slice().len();
-    if count > MOST_INPUTS {
+    if count as u64 > MOST_INPUTS {
         return Err(Status::Limit(LimitFault {
             which: LimitKind::Inputs,
             number: count as u64,

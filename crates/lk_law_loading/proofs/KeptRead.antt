@@ -18,7 +18,7 @@ use Rattle.lk_model.specs.Kinds.{kind_checks}
 use Rattle.lk_model.specs.NeedsOf.{needs_of}
 use Rattle.lk_model.specs.Numbered.{Numbered, is_number_in}
 use Rattle.lk_model.specs.ObjectChecks.{object_checks, object_fault, object_fault_after}
-use Rattle.lk_model.specs.Objects.{r_type_of, piece_bytes_in, relocations_in, summary_in}
+use Rattle.lk_model.specs.Objects.{piece_bytes_in, relocations_in, summary_in}
 use Rattle.lk_model.specs.References.{Sited, reference_of, sited_at, sited_in, sited_of}
 use Rattle.lk_model.specs.RelocationTypes.{width_of}
 use Rattle.lk_model.specs.Resolving.{paths_of, resolve}
@@ -37,6 +37,7 @@ use Rattle.lk_model.specs.declared.summaries.PieceInfo.{PieceInfo}
 use Rattle.lk_model.specs.declared.summaries.Winner.{Winner}
 use Rattle.lk_model.specs.declared.summaries.Winner.TheVariants as winner
 use Rattle.lk_model.proofs.Rising.{all_filter, all_map}
+use Rattle.lk_elf.specs.RelocationInfo.{r_type_of}
 use Rattle.lk_law_placement.specs.SoundInputs.{SoundInput, SoundInputs}
 use Rattle.lk_law_placement.proofs.DistinctLists.{all_joined, all_mapped}
 use Rattle.lk_law_placement.proofs.PiecesLists.{all_numbered_one}

@@ -16,7 +16,7 @@ use Rattle.lk_model.specs.Amounts.{has_flag}
 use Rattle.lk_model.specs.Checks.{first_fault}
 use Rattle.lk_model.specs.Elf.{bytes_under, lies_in, numbered, section_at, section_name, symbol_table}
 use Rattle.lk_model.specs.ObjectChecks.{entry_checks, group_checks_after, is_cut_off, is_section, is_symbol_table, object_checks, overlap_checks, rela_checks, rela_section_checks, rela_sections, section_checks, section_checks_named, symbol_checks, symbol_table_checks, table_checks}
-use Rattle.lk_model.specs.Objects.{r_type_of, group_sections, is_piece_in, is_terminator, piece_bytes_in, piece_named, piece_with, pieces_in, rela_sections_of, relas_under, relocations_in}
+use Rattle.lk_model.specs.Objects.{group_sections, is_piece_in, is_terminator, piece_bytes_in, piece_named, piece_with, pieces_in, rela_sections_of, relas_under, relocations_in}
 use Rattle.lk_model.specs.Pieces.{class_of, is_piece, is_reading_type, key_of, output_name}
 use Rattle.lk_model.specs.RelocationTypes.{width_of}
 use Rattle.lk_model.specs.SectionKeys.{in_file, named}
@@ -27,6 +27,7 @@ use Rattle.lk_model.specs.declared.layouts.SectionKey.{SectionKey}
 use Rattle.lk_model.specs.declared.summaries.PieceInfo.{PieceInfo}
 use Rattle.lk_model.proofs.Rising.{all_map}
 use Rattle.lk_model.proofs.RowsAgain.{not_both}
+use Rattle.lk_elf.specs.RelocationInfo.{r_type_of}
 use Rattle.lk_law_placement.proofs.DistinctLists.{all_both, all_joined}
 use Rattle.lk_law_placement.proofs.SoundInputsChecks.{AllSome, all_passed, all_reported, passed_after, passed_before, passed_each}
 use Rattle.lk_law_loading.specs.Loadable.{ThreadNamed}

@@ -113,12 +113,12 @@ resolved-reports r done =
     let needs = passed (needs_wait r) _ (needs-not r) scanned.1 in
     placed-reports r needs.1
 
-record FileAnswers (c : Command) (files : FileMap) : Type 0 where
+record AnswerFits (c : Command) (files : FileMap) : Type 0 where
   sizes : size_limit 0 (inputs_of c files) ≡ None
   faults : fault_status (input_faults (inputs_of c files)) ≡ None
   limits : placement_limit (resolved_of c files) (full_place (resolved_of c files)) ≡ None
 
-command-reports : (c : Command) (files : FileMap) → command_answer c files ≡ full_link → FileAnswers c files
+command-reports : (c : Command) (files : FileMap) → command_answer c files ≡ full_link → AnswerFits c files
 unfolding command_answer
 command-reports c files done =
     let inputs = inputs_of c files in

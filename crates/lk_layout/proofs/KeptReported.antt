@@ -16,9 +16,9 @@ use Rattle.lk_model.specs.Numbered.{Numbered}
 use Rattle.lk_model.specs.Resolving.{paths_of, resolve}
 use Rattle.lk_model.specs.SectionOrder.{piece_keys, slots_of, table_sizes, table_sizes_among}
 use Rattle.lk_model.specs.Views.{Input, KeptPiece, Resolved}
+use Rattle.lk_resolve.specs.Given.{IsGiven}
 use Rattle.lk_resolve.specs.Settling.{IsFound, ResolutionValue}
 use Rattle.lk_symtab.specs.NameRows.{all_symbols, row_winner}
-use Rattle.lk_dyn_sizes.specs.Given.{IsGiven}
 use Rattle.lk_layout.specs.Grouping.{Groups, groups_of, keys_in, keys_of}
 use Rattle.lk_layout.specs.KeptIn.{kept_in, names_in, sections_in}
 use Rattle.lk_layout.specs.Layouts.{LayoutGives, PlaceGives, placement_of}

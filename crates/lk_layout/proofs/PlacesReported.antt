@@ -77,7 +77,7 @@ map_alike f g h (x ∷ xs) = λ i. h x i ∷ map_alike f g h xs i
 
 -- ---- what the groups of all pieces tell
 
-pub record FileAnswers (patch : ℕ) (all : List KeptPiece) (sizes : List (SectionKey × ℕ)) (slots : SlotTable) (keys : List SectionKey) (rows : List SectionRow) : Type 0 where
+pub record PlacementParts (patch : ℕ) (all : List KeptPiece) (sizes : List (SectionKey × ℕ)) (slots : SlotTable) (keys : List SectionKey) (rows : List SectionRow) : Type 0 where
   pub place : place_in rows all slots ≡ placement_of patch all sizes slots
   pub memory : memory_of (placement_of patch all sizes slots) ≡ memory_in rows
 
@@ -98,7 +98,7 @@ count_reported patch all sizes slots groups keys same keys_so =
     ∙ length-map (keys_under all sizes) (extent_in patch all sizes)
     ∙ ap length (sym (keys_so ∙ ap (λ (g : Groups). ordered_keys sizes g.sections) same ∙ keys_are all sizes))
 
-pub rows_reported : (patch : ℕ) (all : List KeptPiece) (sizes : List (SectionKey × ℕ)) (slots : SlotTable) (groups : Groups) (keys : List SectionKey) (rows : List SectionRow) → groups ≡ groups_of all → keys ≡ ordered_keys sizes groups.sections → rows ≡ rows_of (map (extent_under patch sizes groups.sections) keys) → FileAnswers patch all sizes slots keys rows
+pub rows_reported : (patch : ℕ) (all : List KeptPiece) (sizes : List (SectionKey × ℕ)) (slots : SlotTable) (groups : Groups) (keys : List SectionKey) (rows : List SectionRow) → groups ≡ groups_of all → keys ≡ ordered_keys sizes groups.sections → rows ≡ rows_of (map (extent_under patch sizes groups.sections) keys) → PlacementParts patch all sizes slots keys rows
 unfolding placement_of memory_of
 rows_reported patch all sizes slots groups keys rows same keys_so rows_so =
     let keys_model : keys ≡ keys_under all sizes = keys_so ∙ ap (λ (g : Groups). ordered_keys sizes g.sections) same ∙ keys_are all sizes in

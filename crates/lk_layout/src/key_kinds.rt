@@ -3,7 +3,7 @@
 ghost use Rattle.std.specs.Prelude.{◌≡◌, bytes_eq};
 ghost use Rattle.lk_model.specs.SectionKeys.{is_numbered_array, least_of, named, reserved_of, same_key};
 
-use crate::classes::same_class;
+use lk_model::classes::same_class;
 use lk_model::layouts::{Class, SectionKey};
 
 /// Whether a name is this one.

@@ -5,11 +5,11 @@ ghost use Rattle.lk_model.specs.Lawful.{Lawful};
 ghost use Rattle.lk_model.specs.Resolving.{resolve};
 ghost use Rattle.lk_model.specs.SectionOrder.{slots_of, table_sizes};
 ghost use Rattle.lk_model.specs.Views.{Input};
+ghost use Rattle.lk_resolve.specs.Given.{IsGiven};
 ghost use Rattle.lk_law_placement.specs.SoundInputs.{SoundInputs};
 ghost use Rattle.lk_layout.specs.Grouping.{groups_of};
 ghost use Rattle.lk_layout.specs.KeptIn.{kept_in};
 ghost use Rattle.lk_layout.specs.Layouts.{LayoutGives};
-ghost use Rattle.lk_dyn_sizes.specs.Given.{IsGiven};
 ghost use Rattle.lk_dyn_sizes.specs.SizeRows.{as_pairs};
 
 use crate::grouping::Grouped;

@@ -8,17 +8,14 @@ ghost use Rattle.lk_model.specs.SectionOrder.{First, segment_of};
 ghost use Rattle.lk_layout.specs.Rows.{loaded_among};
 
 use crate::amounts::{plus, round_up};
-use crate::classes::{is_alloc, is_thread, same_class, share_segment};
+use crate::classes::share_segment;
 use crate::extents::WideExtent;
 use crate::wide_rows::WideRow;
+use lk_model::classes::{is_alloc, is_thread, same_class};
+use lk_model::images::{FIRST_ADDRESS, PAGE};
 use lk_model::layouts::Class;
 use lk_report::NoMemory;
 use std::alloc::Global;
-
-/// Where the first section begins; the headers are below it.
-const FIRST_ADDRESS: u128 = 0x401000;
-/// A page in bytes.
-const PAGE: u128 = 0x1000;
 
 /// The address of a section, and where the next may begin.
 #[derive(Clone, Copy)]
@@ -59,7 +56,7 @@ fn begin_from(last: Class, class: Class, at: u128) -> Result<u128, NoMemory>
     if share_segment(last, class) {
         return Ok(at);
     }
-    round_up(at, PAGE)
+    round_up(at, u128::from(PAGE))
 }
 
 /// The place of a section that may begin there.
@@ -97,7 +94,7 @@ pub(crate) fn loaded_rows<'k>(
     let thread = thread_align(extents);
     let mut rows = Vec::new(alloc);
     let mut last = Class::R;
-    let mut at = FIRST_ADDRESS;
+    let mut at = u128::from(FIRST_ADDRESS);
     for extent in extents {
         if is_alloc(extent.class()) {
             let begin = begin_from(last, extent.class(), at)?;

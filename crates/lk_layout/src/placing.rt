@@ -17,13 +17,9 @@ use crate::walks::Walk;
 use crate::wide_rows::WideRow;
 use lk_dyn_sizes::TableSize;
 use lk_model::layouts::{LayoutFault, Placement, SectionKey, SlotTable};
+use lk_model::limits::{MOST_MEMORY, MOST_SECTIONS};
 use lk_report::{LimitFault, LimitKind, NoMemory};
 use std::alloc::Global;
-
-/// So many output sections a link may have.
-const MOST_SECTIONS: usize = 60_000;
-/// So many bytes of memory a link may take.
-const MOST_MEMORY: u64 = 0x8000_0000;
 
 /// What is placed: the output sections in their order, and the walks of those that have pieces.
 #[derive(Drop)]
@@ -90,7 +86,7 @@ pub(crate) fn place_kept(
         return Err(LayoutFault::NoMemory);
     };
     let keys = keys.as_slice();
-    if keys.len() > MOST_SECTIONS {
+    if keys.len() as u64 > MOST_SECTIONS {
         return Err(limit(LimitKind::Sections, keys.len() as u64));
     }
     let Ok(measured) = measure(alloc, patch, tables, kept, keys) else {

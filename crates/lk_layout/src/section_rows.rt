@@ -6,10 +6,11 @@ ghost use Rattle.lk_model.specs.FullPlace.{file_end, rows_of, unloaded_rows};
 ghost use Rattle.lk_layout.specs.Rows.{memory_end, memory_in, unloaded_among};
 
 use crate::amounts::{above, plus, round_up};
-use crate::classes::{in_file, is_alloc};
 use crate::extents::WideExtent;
 use crate::loaded_rows::{loaded_rows, push_row};
-use crate::wide_rows::{LOAD_BASE, WideRow};
+use crate::wide_rows::WideRow;
+use lk_model::classes::{in_file, is_alloc};
+use lk_model::images::LOAD_BASE;
 use lk_model::layouts::SectionRowList;
 use lk_report::{List, NoMemory};
 use std::alloc::Global;
@@ -78,7 +79,7 @@ fn memory_end(rows: &[WideRow<'_>]) -> Result<u128, NoMemory>
 pub(crate) fn memory_of(rows: &[WideRow<'_>]) -> Result<u64, NoMemory>
     ensures { IfOk result (λ memory. memory ≡ memory_in rows.now) }
 {
-    let memory = above(memory_end(rows)?, LOAD_BASE);
+    let memory = above(memory_end(rows)?, u128::from(LOAD_BASE));
     let reported = memory.min(u128::from(u64::MAX));
     Ok(reported as u64)
 }

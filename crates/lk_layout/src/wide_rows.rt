@@ -6,13 +6,11 @@ ghost use Rattle.lk_layout.specs.Rows.{unloaded_row};
 
 use crate::amounts::{above, narrow};
 use crate::extents::WideExtent;
+use lk_model::images::LOAD_BASE;
 use lk_model::layouts::{Class, SectionKey, SectionRow};
 use lk_report::NoMemory;
 use std::alloc::Global;
 use std::marker::Model;
-
-/// Where the first byte of the file is loaded.
-pub(crate) const LOAD_BASE: u128 = 0x400000;
 
 /// A section's row, in bytes. Contracts see it as a `SectionRow` of lk_model.
 #[derive(Drop)]
@@ -41,7 +39,7 @@ impl<'k> WideRow<'k> {
         WideRow {
             key: extent.key(),
             addr: address,
-            offset: above(address, LOAD_BASE),
+            offset: above(address, u128::from(LOAD_BASE)),
             size: extent.size(),
             room: extent.room(),
             align: extent.align(),

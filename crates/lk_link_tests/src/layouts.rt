@@ -135,16 +135,16 @@ fn one_placed(alloc: Global, asked: &[Asked]) -> Result<Result<Placement, Layout
 }
 
 /// A row as headers tell it: its name; its address, its offset in the file, its size and its alignment.
-type FileAnswers = (&'static [u8], [u64; 4]);
+type ExpectedRow = (&'static [u8], [u64; 4]);
 
 /// Whether a row has this name and these numbers.
-fn is_row(row: &SectionRow, reported: &FileAnswers) -> bool {
+fn is_row(row: &SectionRow, reported: &ExpectedRow) -> bool {
     let numbers = [row.addr, row.offset, row.size, row.align];
     row.key.name.as_slice() == reported.0 && numbers == reported.1
 }
 
 /// Whether rows have these names and numbers.
-fn are_rows(rows: &[SectionRow], all: &[FileAnswers]) -> bool {
+fn are_rows(rows: &[SectionRow], all: &[ExpectedRow]) -> bool {
     rows.len() == all.len()
         && rows
             .iter()
@@ -193,7 +193,7 @@ fn thread_local_zeros_take_no_addresses(rt: HostRuntime) -> Result<(), Fail> {
         (b".mine", b".mine", Class::W, 8, 16),
     ];
     let place = one_placed(rt.alloc(), &asked)??;
-    let reported: [FileAnswers; 6] = [
+    let reported: [ExpectedRow; 6] = [
         (b".text", [0x401000, 0x1000, 64, 16]),
         (b".tdata", [0x402000, 0x2000, 64, 16]),
         (b".tbss", [0x402080, 0x2080, 128, 128]),
@@ -282,7 +282,7 @@ fn many_kinds(alloc: Global) -> Result<SummaryList, NoMemory> {
 fn sections_of_many_kinds_are_at_as_in_a_linked_image(rt: HostRuntime) -> Result<(), Fail> {
     let objects = many_kinds(rt.alloc())?;
     let place = laid_out(rt.alloc(), 10, &objects)??;
-    let reported: [FileAnswers; 10] = [
+    let reported: [ExpectedRow; 10] = [
         (b".eh_frame", [0x401000, 0x1000, 0x40, 16]),
         (b".text", [0x402000, 0x2000, 0x140, 32]),
         (b".fini", [0x402140, 0x2140, 0x10, 16]),
@@ -316,7 +316,7 @@ fn every_class(alloc: Global) -> Result<SummaryList, NoMemory> {
 /// The other has `.tbss.y` of 12 bytes at 16 in it, as the only thread-local zeros: there `.tbss` has the alignment
 /// 16 and 0x40 bytes, and is at the end of `.tdata` (there at 0x403000 with 0x80 bytes, and `.tbss` at 0x403080;
 /// here `.tdata` has 0x40), and the next section has the same address again.
-const EVERY_CLASS: [FileAnswers; 11] = [
+const EVERY_CLASS: [ExpectedRow; 11] = [
     (b".eh_frame", [0x401000, 0x1000, 0x40, 16]),
     (b".text", [0x402000, 0x2000, 0x140, 32]),
     (b".fini", [0x402140, 0x2140, 0x10, 16]),

@@ -16,10 +16,7 @@ use Rattle.lk_model.specs.Groups.{is_left, with_claims}
 use Rattle.lk_model.specs.Numbered.{Numbered, is_number_in}
 use Rattle.lk_model.specs.Winners.{symbol_among}
 use Rattle.lk_model.specs.Views.{KeptPiece}
-
--- whether an output section of this class is loaded
-abbrev pub is_loaded : Class → Bool
-is_loaded c = elim c [ class.R ↦ true | class.X ↦ true | class.W ↦ true | class.WX ↦ true | class.Tdata ↦ true | class.Tbss ↦ true | class.Bss ↦ true | class.N ↦ false ]
+use Rattle.lk_model.specs.SectionKeys.{is_alloc}
 
 -- a section of an input as a piece
 abbrev pub section_piece : ℕ → PieceInfo → KeptPiece
@@ -35,7 +32,7 @@ kept_sections added = flat_map (λ (c : List (List ℕ) × Numbered). pieces_lef
 
 -- the names of the loaded output sections that kept pieces go to
 abbrev pub loaded_names : List KeptPiece → List (List ℕ)
-loaded_names kept = map (λ (k : KeptPiece). k.key.name) (filter (λ (k : KeptPiece). is_loaded k.key.class) kept)
+loaded_names kept = map (λ (k : KeptPiece). k.key.name) (filter (λ (k : KeptPiece). is_alloc k.key.class) kept)
 
 -- the output section of common blocks and copies
 abbrev pub bss_key : SectionKey

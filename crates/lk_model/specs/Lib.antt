@@ -98,3 +98,4 @@ pub mod SharedObjects
 pub mod SharedChecks
 pub mod Loads
 pub mod Spans
+pub mod InputNames

@@ -11,11 +11,11 @@ use Rattle.lk_model.specs.declared.summaries.Contributions.{Contributions}
 use Rattle.lk_model.specs.declared.summaries.Global.{Global}
 use Rattle.lk_model.specs.Finding.{Found, contributions_in, winner_in}
 use Rattle.lk_model.specs.Forms.{is_got_form, is_address_form, r_x86_64_gottpoff, r_x86_64_plt32}
-use Rattle.lk_model.specs.KeptPieces.{is_loaded}
 use Rattle.lk_model.specs.Numbered.{distinct}
 use Rattle.lk_model.specs.References.{Sited}
 use Rattle.lk_model.specs.Views.{Ref, Through}
 use Rattle.lk_model.specs.Winners.{import_symbol}
+use Rattle.lk_model.specs.SectionKeys.{is_alloc}
 
 -- whose slot a reference needs
 abbrev pub slot_owner : Ref → GotOwner
@@ -75,7 +75,7 @@ got_key_eq a b = owner_eq a.owner b.owner && beq a.thread b.thread
 
 -- the references that are in loaded pieces, which alone need something
 abbrev pub loaded_references : List Sited → List Ref
-loaded_references sited = flat_map (λ (x : Sited). cond (is_loaded x.0.class) (x.1 ∷ []) []) sited
+loaded_references sited = flat_map (λ (x : Sited). cond (is_alloc x.0.class) (x.1 ∷ []) []) sited
 
 -- what references need, each in order of its first reference
 unfoldable pub needs_of : Found → List Sited → Needs

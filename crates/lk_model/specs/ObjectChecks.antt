@@ -14,10 +14,12 @@ pub use Rattle.lk_model.specs.Checks.{first_fault}
 use Rattle.lk_model.specs.Checks.{is_some_with}
 use Rattle.lk_model.specs.Elf.{lies_in, numbered, section_at, section_name, symbol_table, symbol_name, elf_of}
 use Rattle.lk_model.specs.Kinds.{kind_checks}
-use Rattle.lk_model.specs.Objects.{binding_of, type_of, is_local, numbered_symbols, r_symbol_of, r_type_of, relas_under, rela_sections_of, is_piece_in, group_sections, words_under, members_under, signature_of}
+use Rattle.lk_model.specs.Objects.{binding_of, type_of, is_local, numbered_symbols, relas_under, rela_sections_of, is_piece_in, group_sections, words_under, members_under, signature_of}
 use Rattle.lk_model.specs.Pieces.{is_piece, is_table_name, is_tail_name}
 use Rattle.lk_model.specs.RelocationTypes.{width_of}
 use Rattle.lk_model.specs.Views.{Elf}
+use Rattle.lk_elf.specs.RelocationInfo.{r_type_of}
+use Rattle.lk_elf.specs.RelocationInfo.{r_symbol_of}
 
 -- ---- the section table
 

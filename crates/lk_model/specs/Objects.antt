@@ -37,14 +37,6 @@ type_of symbol = symbol.st_info % 16
 abbrev pub visibility_of_symbol : Sym → ℕ
 visibility_of_symbol symbol = symbol.st_other % 4
 
--- the symbol of a relocation, by number (gABI "Relocation", r_info)
-abbrev pub r_symbol_of : Rela → ℕ
-r_symbol_of rela = rela.r_info / 2 ^ 32
-
--- the type of a relocation (gABI "Relocation", r_info)
-abbrev pub r_type_of : Rela → ℕ
-r_type_of rela = rela.r_info % 2 ^ 32
-
 -- how many entries of 24 bytes a section has in the file; none where its bytes do not lie in it
 abbrev pub rela_count : Elf → Shdr → ℕ
 rela_count elf header = if lies_in elf.bytes header.sh_offset header.sh_size then header.sh_size / rela_size else 0

@@ -11,8 +11,10 @@ use Rattle.lk_model.specs.declared.records.Reference.{Reference}
 use Rattle.lk_model.specs.declared.summaries.Contributions.{Contributions}
 use Rattle.lk_model.specs.declared.summaries.Global.{Global}
 use Rattle.lk_model.specs.declared.summaries.InputSummary.{InputSummary}
-use Rattle.lk_model.specs.Objects.{relocations_in, r_symbol_of, r_type_of}
+use Rattle.lk_model.specs.Objects.{relocations_in}
 use Rattle.lk_model.specs.Views.{Elf, Input, KeptPiece, Ref, Through}
+use Rattle.lk_elf.specs.RelocationInfo.{r_type_of}
+use Rattle.lk_elf.specs.RelocationInfo.{r_symbol_of}
 
 -- a reference with the output section of the piece that it is in
 abbrev pub Sited : Type 0

@@ -15,7 +15,6 @@ use Rattle.lk_model.specs.declared.summaries.Winner.{Winner}
 use Rattle.lk_model.specs.Amounts.{has_flag}
 use Rattle.lk_model.specs.Finding.{Found, contributions_in, is_kept_in, path_in, winner_in}
 use Rattle.lk_model.specs.Forms.{is_got_form, is_block_offset, is_thread_offset, is_thread_form, is_size_form, is_address_form, r_x86_64_none, r_x86_64_gottpoff}
-use Rattle.lk_model.specs.KeptPieces.{is_loaded}
 use Rattle.lk_model.specs.NeedsOf.{import_of, is_variable}
 use Rattle.lk_model.specs.Objects.{local_in}
 use Rattle.lk_model.specs.RelocationTypes.{relocation_type_of}
@@ -23,6 +22,7 @@ use Rattle.lk_model.specs.References.{Sited, recorded_of, sited_of}
 use Rattle.lk_model.specs.Resolving.{found_in}
 use Rattle.lk_model.specs.Views.{Elf, Input, Ref, Resolved, Through}
 use Rattle.lk_model.specs.Winners.{is_nothing, is_tls_winner}
+use Rattle.lk_model.specs.SectionKeys.{is_alloc}
 
 -- the place of a reference
 abbrev pub site_of : Found → Ref → Site
@@ -79,7 +79,7 @@ is_eh_frame key = bytes_eq key.name (codes ".eh_frame") && elim key.class [ clas
 -- whether references in an output section must not go to LOCAL symbols of sections that are not
 -- linked: it is loaded and not `.eh_frame`
 abbrev pub needs_local_sections : SectionKey → Bool
-needs_local_sections key = is_loaded key.class && not (is_eh_frame key)
+needs_local_sections key = is_alloc key.class && not (is_eh_frame key)
 
 -- whether a reference of this file goes to a LOCAL symbol of a section that is not linked
 abbrev pub is_to_dropped : Found → Elf → Ref → Bool
@@ -117,8 +117,8 @@ abbrev pub faults_at : Found → Elf → Sited → List Fault
 faults_at found elf (key, x) =
     undefined_at found x
     ++ cond (needs_local_sections key && is_to_dropped found elf x) (fault.DroppedLocal (site_of found x) ∷ []) []
-    ++ cond (is_unsupported found elf (is_loaded key.class) x) (fault.Unsupported x.code (site_of found x) ∷ []) []
-    ++ cond (is_loaded key.class) (empty_copy_at found x ++ direct_tls_at found x) []
+    ++ cond (is_unsupported found elf (is_alloc key.class) x) (fault.Unsupported x.code (site_of found x) ∷ []) []
+    ++ cond (is_alloc key.class) (empty_copy_at found x ++ direct_tls_at found x) []
 
 -- the faults of references of this file, each site by itself
 abbrev pub faults_in : Found → Elf → List Sited → List Fault

@@ -13,8 +13,12 @@
 //! apart from it.
 #![tactic(auto)]
 
+pub mod classes;
 pub mod commands;
+pub mod images;
+pub mod input_names;
 pub mod laws;
 pub mod layouts;
+pub mod limits;
 pub mod records;
 pub mod summaries;

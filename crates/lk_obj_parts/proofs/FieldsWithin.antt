@@ -13,8 +13,9 @@ use Rattle.lk_report.specs.declared.faults.InputFault.{InputFault}
 use Rattle.lk_model.specs.Checks.{first_fault}
 use Rattle.lk_model.specs.Elf.{numbered, section_at}
 use Rattle.lk_model.specs.ObjectChecks.{is_outside, rela_section_checks, rela_sections}
-use Rattle.lk_model.specs.Objects.{is_piece_in, rela_sections_of, r_symbol_of}
+use Rattle.lk_model.specs.Objects.{is_piece_in, rela_sections_of}
 use Rattle.lk_model.specs.Views.{Elf}
+use Rattle.lk_elf.specs.RelocationInfo.{r_symbol_of}
 use Rattle.lk_obj_parts.specs.ElfViews.{elf_from}
 use Rattle.lk_obj_parts.specs.FieldMarks.{FieldsFit, RowsFit, field_width}
 use Rattle.lk_obj_parts.specs.RelocationEntries.{entries_from, entry_at, entry_count}

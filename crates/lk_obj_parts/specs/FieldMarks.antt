@@ -6,8 +6,8 @@ use Rattle.lk_elf.specs.declared.section_header.Shdr.{Shdr}
 use Rattle.lk_report.specs.declared.faults.InputFault.{InputFault}
 use Rattle.lk_report.specs.declared.faults.InputFault.TheVariants.{BadRela}
 use Rattle.lk_model.specs.Checks.{first_fault}
-use Rattle.lk_model.specs.Objects.{r_type_of}
 use Rattle.lk_model.specs.RelocationTypes.{width_of}
+use Rattle.lk_elf.specs.RelocationInfo.{r_type_of}
 use Rattle.lk_obj_parts.specs.RelocationEntries.{entry_at, entry_count}
 
 -- none of these bytes is marked

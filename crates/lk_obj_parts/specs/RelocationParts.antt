@@ -9,9 +9,9 @@ use Rattle.lk_report.specs.declared.faults.InputFault.{InputFault}
 use Rattle.lk_report.specs.declared.faults.InputFault.TheVariants.{BadTable, BadRela}
 use Rattle.lk_model.specs.Checks.{first_fault}
 use Rattle.lk_model.specs.ObjectChecks.{is_outside, is_section, is_symbol_table, rela_section_checks}
-use Rattle.lk_model.specs.Objects.{r_symbol_of}
 use Rattle.lk_model.specs.Pieces.{is_piece}
 use Rattle.lk_model.specs.Views.{Elf}
+use Rattle.lk_elf.specs.RelocationInfo.{r_symbol_of}
 use Rattle.lk_obj_parts.specs.RelocationEntries.{entries_from}
 
 -- a section with this header and this name is a piece

@@ -33,7 +33,7 @@ pub use groups::{groups_of, word_under};
 pub use overlaps::overlap_fault;
 pub use pieces::{key_of, may_be_piece};
 pub use relocation_checks::rela_faults;
-pub use relocations::{code_of, relas_under, symbol_of, width_of};
+pub use relocations::{relas_under, width_of};
 pub use section_checks::{sections_fault, table_fault};
 pub use signatures::signature_of;
 pub use symbol_checks::{symbol_table_fault, symbols_fault};

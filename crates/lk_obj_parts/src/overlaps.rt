@@ -19,7 +19,7 @@ ghost use Rattle.lk_obj_parts.specs.FieldMarks.{FieldsFit, RowsFit, fields_paint
 ghost use Rattle.lk_obj_parts.specs.RelocationParts.{rows_fault};
 ghost use Rattle.lk_obj_parts.specs.TargetRows.{TargetsFit, list_checks, room_with};
 
-use crate::relocations::{code_of, entry_at, entry_count, width_of};
+use crate::relocations::{entry_at, entry_count, width_of};
 use crate::rising_fields::{rows_rise, targets_rise};
 use crate::target_rows::{RowList, rows_by_target};
 use lk_elf::numbers::SHT_NOBITS;
@@ -64,7 +64,7 @@ fn mark_fields(marks: &mut [bool], bytes: &[u8], n: u32, section: &Shdr) -> Opti
     for k in 0..entries {
         let rela = entry_at(bytes, section, k);
         let at = rela.r_offset as usize;
-        let width = width_of(code_of(&rela)) as usize;
+        let width = width_of(rela.r_type()) as usize;
         if !is_free(marks, at, width) {
             return Some(InputFault::BadRela(n, k as u32));
         }
@@ -83,7 +83,7 @@ fn clear_fields(marks: &mut [bool], bytes: &[u8], n: u32, section: &Shdr)
     for k in 0..entries {
         let rela = entry_at(bytes, section, k);
         let at = rela.r_offset as usize;
-        let width = width_of(code_of(&rela)) as usize;
+        let width = width_of(rela.r_type()) as usize;
         paint(marks, false, at, width);
     }
 }

@@ -13,7 +13,7 @@ ghost use Rattle.lk_obj_parts.specs.RelocationParts.{entry_checks_among, entry_f
 ghost use Rattle.lk_obj_parts.specs.TargetRows.{TargetsFit};
 
 use crate::pieces::{is_piece, may_be_piece};
-use crate::relocations::{code_of, entry_at, entry_count, symbol_of, width_of};
+use crate::relocations::{entry_at, entry_count, width_of};
 use crate::texts::{header_at, section_name};
 use lk_elf::numbers::{RELA_SIZE, SHT_NOBITS, SHT_RELA, SHT_SYMTAB};
 use lk_elf::{Ehdr, Rela, Shdr, Sym};
@@ -54,7 +54,7 @@ fn table_number(sections: &[Shdr]) -> Option<u32>
 fn is_outside(size: u64, rela: &Rela) -> bool
     ensures { result ≡ is_outside size rela.now }
 {
-    let width = width_of(code_of(rela));
+    let width = width_of(rela.r_type());
     size < width || size - width < rela.r_offset
 }
 
@@ -63,7 +63,7 @@ fn is_outside(size: u64, rela: &Rela) -> bool
 fn entry_fault(count: usize, n: u32, target: &Shdr, k: u32, rela: &Rela) -> Option<InputFault>
     ensures { result ≡ first_fault (entry_checks_among count n target.now (k, rela.now)) }
 {
-    if symbol_of(rela) >= count as u64 {
+    if rela.r_symbol() as usize >= count {
         return Some(InputFault::BadRela(n, k));
     }
     if is_outside(target.sh_size, rela) {

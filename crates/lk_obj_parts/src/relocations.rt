@@ -3,7 +3,7 @@
 
 ghost use Rattle.std.specs.Prelude.{◌≡◌, ◌+◌, ◌*◌, ◌<◌, ◌≤◌, length, IfOk};
 ghost use Rattle.lk_elf.specs.Records.{rela_at};
-ghost use Rattle.lk_model.specs.Objects.{r_type_of, relas_under, r_symbol_of};
+ghost use Rattle.lk_model.specs.Objects.{relas_under};
 ghost use Rattle.lk_model.specs.RelocationTypes.{width_of};
 ghost use Rattle.lk_model.specs.Views.{Elf};
 ghost use Rattle.lk_obj_parts.specs.RelocationEntries.{entry_at, entry_count};
@@ -16,7 +16,7 @@ use std::alloc::Global;
 
 /// The width in bytes of the field of a relocation type; 0 for NONE and for a number that no type has.
 #[tactic(auto, using(crate::proofs::TypeWidths::width_reported), unfolding(lk_model::specs::RelocationTypes::relocation_types))]
-pub fn width_of(code: u64) -> u64
+pub fn width_of(code: u32) -> u64
     ensures value { result ≡ width_of code }
     ensures short { result ≤ 8 }
 {
@@ -45,20 +45,6 @@ pub fn width_of(code: u64) -> u64
         42 => 4,
         _ => 0,
     }
-}
-
-/// The number of a relocation's symbol.
-pub fn symbol_of(rela: &Rela) -> u64
-    ensures { result ≡ r_symbol_of rela.now }
-{
-    rela.r_info / 0x1_0000_0000
-}
-
-/// The number of a relocation's type.
-pub fn code_of(rela: &Rela) -> u64
-    ensures { result ≡ r_type_of rela.now }
-{
-    rela.r_info % 0x1_0000_0000
 }
 
 /// How many entries a section of relocations has in the file; none where its bytes do not lie in it.

@@ -9,7 +9,7 @@ ghost use Rattle.std.specs.Prelude.{◌≡◌, ◌+◌, drop, nat_le};
 ghost use Rattle.std.specs.List.{list_all};
 ghost use Rattle.lk_obj_parts.specs.RisingFields.{fields_rise, is_apart, least_after, rows_rise, targets_rise};
 
-use crate::relocations::{code_of, entry_at, entry_count, width_of};
+use crate::relocations::{entry_at, entry_count, width_of};
 use lk_elf::Shdr;
 use lk_elf::numbers::SHT_RELA;
 
@@ -37,7 +37,7 @@ pub(crate) fn fields_rise(bytes: &[u8], section: &Shdr) -> bool
             return false;
         }
         earlier = rela.r_offset;
-        width = width_of(code_of(&rela));
+        width = width_of(rela.r_type());
     }
     true
 }

@@ -19,10 +19,12 @@ use Rattle.lk_model.specs.Checks.{first_fault, is_some_with}
 use Rattle.lk_model.specs.Elf.{bytes_under, elf_of, lies_in, numbered, section_at, section_name, symbol_table}
 use Rattle.lk_model.specs.Kinds.{kind_checks}
 use Rattle.lk_model.specs.ObjectChecks.{entry_checks, is_cut_off, is_outside, object_checks, object_fault, object_fault_after, rela_checks, rela_section_checks, rela_sections, section_checks, section_checks_named, symbol_checks, symbol_table_checks, table_checks}
-use Rattle.lk_model.specs.Objects.{r_type_of, is_piece_in, key_in, piece_bytes_in, rela_sections_of, relas_under, relocations_in, r_symbol_of}
+use Rattle.lk_model.specs.Objects.{is_piece_in, key_in, piece_bytes_in, rela_sections_of, relas_under, relocations_in}
 use Rattle.lk_model.specs.Pieces.{is_piece, key_of}
 use Rattle.lk_model.specs.RelocationTypes.{width_of}
 use Rattle.lk_model.specs.Views.{Elf}
+use Rattle.lk_elf.specs.RelocationInfo.{r_type_of}
+use Rattle.lk_elf.specs.RelocationInfo.{r_symbol_of}
 use Rattle.lk_obj_parts.specs.RelocationParts.{head_checks}
 use Rattle.lk_obj_parts.specs.TargetRows.{room_of}
 use Rattle.lk_obj_read.specs.ObjectParts.{reference_half, table_half}

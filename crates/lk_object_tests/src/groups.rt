@@ -3,7 +3,7 @@
 
 ghost use Rattle.std.specs.Prelude.{◌+◌, ◌≤◌};
 
-use crate::headers::{FileAnswers, NO_SECTION, NO_SECTIONS, NO_SYMBOL, is_text};
+use crate::headers::{Answer, NO_SECTION, NO_SECTIONS, NO_SYMBOL, is_text};
 use lk_elf::numbers::{SHF_ALLOC, SHN_ABS, SHT_GROUP, SHT_PROGBITS, SHT_STRTAB, SHT_SYMTAB};
 use lk_elf::{Ehdr, Shdr, Sym};
 use lk_model::summaries::{Group, GroupList};
@@ -108,7 +108,7 @@ fn file(words: [u32; 6]) -> [u8; SIZE] {
 }
 
 /// The first fault of two groups, of which the first has this header, with these words and this symbol 1.
-fn reported(alloc: Global, words: [u32; 6], first: Shdr, of_text: Sym) -> FileAnswers {
+fn reported(alloc: Global, words: [u32; 6], first: Shdr, of_text: Sym) -> Answer {
     let bytes = file(words);
     let sections = [NO_SECTION, first, SECOND, TEXT, SYMBOLS, STRINGS];
     let symbols = [NO_SYMBOL, of_text, SIGNATURE];
@@ -116,12 +116,12 @@ fn reported(alloc: Global, words: [u32; 6], first: Shdr, of_text: Sym) -> FileAn
 }
 
 /// The fault of groups with these words.
-fn words_reported(alloc: Global, words: [u32; 6]) -> FileAnswers {
+fn words_reported(alloc: Global, words: [u32; 6]) -> Answer {
     reported(alloc, words, FIRST, OF_TEXT)
 }
 
 /// The fault of groups of which this is the first.
-fn first_reported(alloc: Global, first: Shdr) -> FileAnswers {
+fn first_reported(alloc: Global, first: Shdr) -> Answer {
     reported(alloc, WORDS, first, OF_TEXT)
 }
 

@@ -5,7 +5,7 @@ use lk_elf::{Ehdr, Shdr, Sym};
 use lk_report::{InputFault, NoMemory};
 
 /// The first fault, or none, where there was memory to look for it.
-pub type FileAnswers = Result<Option<InputFault>, NoMemory>;
+pub type Answer = Result<Option<InputFault>, NoMemory>;
 
 /// The header of a relocatable object without sections.
 pub const NO_SECTIONS: Ehdr = Ehdr {

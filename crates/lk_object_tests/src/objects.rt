@@ -3,7 +3,7 @@
 
 ghost use Rattle.std.specs.Prelude.{◌≤◌, ◌*◌, ◌^◌, length};
 
-use crate::headers::FileAnswers;
+use crate::headers::Answer;
 use lk_elf::Rela;
 use lk_model::layouts::Class;
 use lk_model::summaries::{Home, Kind, Local};
@@ -72,7 +72,7 @@ fn changed(at: usize, byte: u8) -> [u8; 640] {
     bytes
 }
 
-fn reported(alloc: Global, bytes: &[u8]) -> FileAnswers
+fn reported(alloc: Global, bytes: &[u8]) -> Answer
     requires { length bytes.now ≤ 24 * 2 ^ 32 }
 {
     object_fault(alloc, bytes)

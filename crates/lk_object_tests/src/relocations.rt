@@ -3,7 +3,7 @@
 
 ghost use Rattle.std.specs.Prelude.{◌^◌, ◌<◌, ◌≤◌, length};
 
-use crate::headers::{FileAnswers, NO_SECTION, NO_SECTIONS, NO_SYMBOL};
+use crate::headers::{Answer, NO_SECTION, NO_SECTIONS, NO_SYMBOL};
 use lk_elf::numbers::{
     SHF_ALLOC, SHF_EXECINSTR, SHF_WRITE, SHT_NOBITS, SHT_PROGBITS, SHT_RELA, SHT_STRTAB, SHT_SYMTAB,
 };
@@ -104,7 +104,7 @@ fn file(a: Rela, b: Rela, c: Rela, d: Rela) -> [u8; SIZE] {
 
 /// The first fault of the relocations of a file with these sections 1, 4 and 5, in which section 6 is
 /// data; it has two symbols.
-fn reported(alloc: Global, bytes: &[u8], text: Shdr, first: Shdr, second: Shdr) -> FileAnswers
+fn reported(alloc: Global, bytes: &[u8], text: Shdr, first: Shdr, second: Shdr) -> Answer
     requires { length bytes.now ≤ 1000 }
 {
     let sections = [NO_SECTION, text, TITLES, SYMBOLS, first, second, DATA];
@@ -115,17 +115,17 @@ fn reported(alloc: Global, bytes: &[u8], text: Shdr, first: Shdr, second: Shdr) 
 }
 
 /// The fault of four relocations of the code, two in each section.
-fn four_reported(alloc: Global, a: Rela, b: Rela, c: Rela, d: Rela) -> FileAnswers {
+fn four_reported(alloc: Global, a: Rela, b: Rela, c: Rela, d: Rela) -> Answer {
     reported(alloc, &file(a, b, c, d), TEXT, FIRST, SECOND)
 }
 
 /// The fault where the last of three fields apart is this one.
-fn last_reported(alloc: Global, d: Rela) -> FileAnswers {
+fn last_reported(alloc: Global, d: Rela) -> Answer {
     four_reported(alloc, four(0), none(16), four(8), d)
 }
 
 /// The fault where section 4 has this header, and fields are apart.
-fn first_reported(alloc: Global, first: Shdr) -> FileAnswers {
+fn first_reported(alloc: Global, first: Shdr) -> Answer {
     reported(
         alloc,
         &file(four(0), four(4), four(8), four(12)),

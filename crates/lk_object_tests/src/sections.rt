@@ -3,7 +3,7 @@
 
 ghost use Rattle.std.specs.Prelude.{◌+◌, ◌≤◌};
 
-use crate::headers::{FileAnswers, NO_SECTION, NO_SECTIONS, is_text};
+use crate::headers::{Answer, NO_SECTION, NO_SECTIONS, is_text};
 use lk_elf::numbers::{
     ET_DYN, SHF_ALLOC, SHF_COMPRESSED, SHF_EXECINSTR, SHF_TLS, SHF_WRITE, SHT_HASH, SHT_NOBITS,
     SHT_PROGBITS, SHT_REL, SHT_STRTAB, SHT_SYMTAB_SHNDX, SHT_X86_64_UNWIND,
@@ -87,7 +87,7 @@ fn file(header: &Ehdr, text: &Shdr, titles: &Shdr) -> [u8; SIZE] {
 }
 
 /// The first fault of a file with this header and these sections.
-fn reported(alloc: Global, header: &Ehdr, text: &Shdr, titles: &Shdr) -> FileAnswers {
+fn reported(alloc: Global, header: &Ehdr, text: &Shdr, titles: &Shdr) -> Answer {
     let bytes = file(header, text, titles);
     let sections = read_sections(alloc, &bytes, header)?;
     match table_fault(&bytes, header, &sections) {
@@ -97,17 +97,17 @@ fn reported(alloc: Global, header: &Ehdr, text: &Shdr, titles: &Shdr) -> FileAns
 }
 
 /// The fault of a file with this header.
-fn header_reported(alloc: Global, header: Ehdr) -> FileAnswers {
+fn header_reported(alloc: Global, header: Ehdr) -> Answer {
     reported(alloc, &header, &TEXT, &TITLES)
 }
 
 /// The fault of a file with this section 1.
-fn text_reported(alloc: Global, text: Shdr) -> FileAnswers {
+fn text_reported(alloc: Global, text: Shdr) -> Answer {
     reported(alloc, &HEADER, &text, &TITLES)
 }
 
 /// The fault of a file with this section 2.
-fn titles_reported(alloc: Global, text: Shdr, titles: Shdr) -> FileAnswers {
+fn titles_reported(alloc: Global, text: Shdr, titles: Shdr) -> Answer {
     reported(alloc, &HEADER, &text, &titles)
 }
 

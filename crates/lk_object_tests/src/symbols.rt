@@ -3,7 +3,7 @@
 
 ghost use Rattle.std.specs.Prelude.{◌+◌, ◌≤◌, ◌<◌, ◌^◌, length};
 
-use crate::headers::{FileAnswers, NO_SECTION, NO_SYMBOL};
+use crate::headers::{Answer, NO_SECTION, NO_SYMBOL};
 use lk_elf::numbers::{
     SHF_ALLOC, SHF_EXECINSTR, SHF_TLS, SHF_WRITE, SHN_ABS, SHN_COMMON, SHN_UNDEF, SHN_XINDEX,
     SHT_PROGBITS, SHT_STRTAB, SHT_SYMTAB,
@@ -102,7 +102,7 @@ fn sections(table: &Shdr, fifth: &Shdr) -> [Shdr; 6] {
 }
 
 /// The first fault of a symbol table and of its symbols.
-fn reported(alloc: Global, table: &Shdr, fifth: &Shdr, local: &Sym, global: &Sym) -> FileAnswers {
+fn reported(alloc: Global, table: &Shdr, fifth: &Shdr, local: &Sym, global: &Sym) -> Answer {
     let bytes = file(local, global);
     let sections = sections(table, fifth);
     let symbols = read_symbols(alloc, &bytes, &sections)?;
@@ -113,17 +113,17 @@ fn reported(alloc: Global, table: &Shdr, fifth: &Shdr, local: &Sym, global: &Sym
 }
 
 /// The fault of a file with this section 3.
-fn table_reported(alloc: Global, table: Shdr) -> FileAnswers {
+fn table_reported(alloc: Global, table: Shdr) -> Answer {
     reported(alloc, &table, &TEXT, &LOCAL, &GLOBAL)
 }
 
 /// The fault of a file with this symbol 1.
-fn local_reported(alloc: Global, local: Sym) -> FileAnswers {
+fn local_reported(alloc: Global, local: Sym) -> Answer {
     reported(alloc, &TABLE, &TEXT, &local, &GLOBAL)
 }
 
 /// The fault of a file with this symbol 2.
-fn global_reported(alloc: Global, global: Sym) -> FileAnswers {
+fn global_reported(alloc: Global, global: Sym) -> Answer {
     reported(alloc, &TABLE, &TEXT, &LOCAL, &global)
 }
 

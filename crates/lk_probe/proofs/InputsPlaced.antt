@@ -16,20 +16,23 @@ use Rattle.lk_model.specs.ResolveFaults.{name_count, resolve_faults}
 use Rattle.lk_model.specs.Resolving.{resolve}
 use Rattle.lk_model.specs.ScanFaults.{scan_faults}
 use Rattle.lk_model.specs.Views.{Input, Resolved}
+use Rattle.lk_model.specs.InputNames.{input_summary}
+use Rattle.lk_model.proofs.Limits.{above}
+use Rattle.lk_model.proofs.Limits.{below}
+use Rattle.lk_resolve.specs.Given.{found_in}
+use Rattle.lk_resolve.specs.Given.{IsGiven}
 use Rattle.lk_layout.specs.Layouts.{LayoutGives, layout_limit}
 use Rattle.lk_scan_inputs.specs.Scans.{InputsScanned}
 use Rattle.lk_scan_inputs.specs.declared.link_scanning.ScannedInputs.{ScannedInputs}
 use Rattle.lk_inputs.specs.declared.input_files.InputFile.{InputFile}
-use Rattle.lk_inputs.specs.Adding.{summary_of}
 use Rattle.lk_inputs.specs.Refusals.{IsRefusal}
-use Rattle.lk_inputs.specs.Resolves.{found_in, settle_status}
-use Rattle.lk_inputs.proofs.AnswersReported.{above, below, faults_reported_of, names_counted, some_faults}
+use Rattle.lk_inputs.specs.Resolves.{settle_status}
+use Rattle.lk_inputs.proofs.AnswersReported.{faults_reported_of, names_counted, some_faults}
 use Rattle.lk_resolve.specs.Settling.{SettleGives, ResolutionValue}
 use Rattle.lk_resolve.specs.declared.settle_faults.SettleFault.{SettleFault}
 use Rattle.lk_resolve.specs.declared.settle_faults.SettleFault.TheVariants as settle
 use Rattle.lk_scan.specs.declared.scans.ScanFailure.{ScanFailure}
 use Rattle.lk_scan.specs.declared.scans.ScanFailure.TheVariants as scan
-use Rattle.lk_dyn_sizes.specs.Given.{IsGiven}
 use Rattle.lk_probe.specs.Laying.{InputsLaid, layout_refusal, layout_status, names_refusal, placement_refusal, refusal_or, scan_status}
 use Rattle.lk_probe.specs.declared.placing.Unplaced.{Unplaced}
 use Rattle.lk_probe.specs.declared.placing.Unplaced.TheVariants as unplaced
@@ -128,5 +131,5 @@ laid_reported options xs resolution files s place found scanned h = (
 
 -- what code holds of a link is what resolution finds of its inputs
 pub inputs_given : (options : OptionRecord) (xs : List Input) (resolution : ResolutionValue) (files : List InputFile) (summaries : List InputSummary) (s : ScannedInputs)
-    → summaries ≡ map summary_of xs → SettleGives (found_in options.entry xs) (Ok resolution) → InputsScanned (resolve options xs) files (Ok s) → IsGiven resolution summaries s.needs options xs
+    → summaries ≡ map input_summary xs → SettleGives (found_in options.entry xs) (Ok resolution) → InputsScanned (resolve options xs) files (Ok s) → IsGiven resolution summaries s.needs options xs
 inputs_given options xs resolution files summaries s are found scanned = record { summarized = sym are; found = found.2; needed = sym scanned.1 }

@@ -5,13 +5,11 @@ ghost use Rattle.lk_model.specs.ObjectChecks.{object_fault};
 ghost use Rattle.lk_probe.specs.Judging.{AreCounts, IsJudged};
 
 use lk_elf::Ehdr;
+use lk_model::limits::MOST_INPUT_BYTES;
 use lk_obj_parts::{read_sections, read_symbols};
 use lk_obj_read::object_fault;
 use lk_report::{InputFault, LimitFault, LimitKind, NoMemory};
 use std::alloc::Global;
-
-/// How many bytes an object has at most: 64 MiB.
-const MOST_BYTES: usize = 0x400_0000;
 
 /// What a file is.
 #[derive(Drop)]
@@ -31,7 +29,7 @@ pub enum Verdict {
 pub fn judged(alloc: Global, bytes: &[u8]) -> Verdict
     ensures { IsJudged bytes.now result }
 {
-    if bytes.len() > MOST_BYTES {
+    if bytes.len() as u64 > MOST_INPUT_BYTES {
         return Verdict::TooLong(LimitFault {
             which: LimitKind::InputSize,
             number: bytes.len() as u64,

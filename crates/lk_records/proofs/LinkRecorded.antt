@@ -13,10 +13,10 @@ use Rattle.lk_model.specs.RecordsOf.{input_record, name_row, recorded_reference,
 use Rattle.lk_model.specs.References.{recorded, recorded_of}
 use Rattle.lk_model.specs.Resolving.{paths_of, resolve}
 use Rattle.lk_model.specs.Views.{Input, Ref, Through}
-use Rattle.lk_inputs.specs.declared.input_names.InputName.{InputName}
-use Rattle.lk_inputs.specs.Adding.{summary_of}
-use Rattle.lk_inputs.specs.Named.{name_of}
-use Rattle.lk_inputs.specs.Resolves.{found_in}
+use Rattle.lk_model.specs.InputNames.{name_of}
+use Rattle.lk_model.specs.InputNames.{input_summary}
+use Rattle.lk_resolve.specs.Given.{found_in}
+use Rattle.lk_model.specs.declared.input_names.InputName.{InputName}
 use Rattle.lk_resolve.specs.Settling.{IsFound, ResolutionValue}
 use Rattle.lk_symtab.specs.NameRows.{NameRow, all_symbols, row_winner}
 use Rattle.lk_records.specs.AddedMarks.{marks_from}
@@ -35,16 +35,16 @@ as_many : (xs : List Input) → length (map name_of xs) ≡ length xs
 as_many [] = refl
 as_many (x ∷ xs) = ap suc (as_many xs)
 
-inputs_reported : (added : List ℕ) (first : ℕ) (xs : List Input) → records_with (map name_of xs) (map occurrence_of xs) (marks_from added first (length xs)) (map summary_of xs) ≡ map (input_record added) (enumerate_from first xs)
+inputs_reported : (added : List ℕ) (first : ℕ) (xs : List Input) → records_with (map name_of xs) (map occurrence_of xs) (marks_from added first (length xs)) (map input_summary xs) ≡ map (input_record added) (enumerate_from first xs)
 inputs_reported added first [] = refl
 inputs_reported added first (x ∷ xs) = ap (λ (rows : List InputRecord). input_record added (first, x) ∷ rows) (inputs_reported added (first + 1) xs)
 
 inputs_recorded : (added : List ℕ) (xs : List Input) → OccurrencesAreRight xs
-    → records_with (map name_of xs) (occurrences_after [] (map name_path (map name_of xs))) (marks_from added 0 (length (map name_of xs))) (map summary_of xs) ≡ map (input_record added) (enumerate_from 0 xs)
+    → records_with (map name_of xs) (occurrences_after [] (map name_path (map name_of xs))) (marks_from added 0 (length (map name_of xs))) (map input_summary xs) ≡ map (input_record added) (enumerate_from 0 xs)
 inputs_recorded added xs right =
-    ap (λ (ps : List (List ℕ)). records_with (map name_of xs) (occurrences_after [] ps) (marks_from added 0 (length (map name_of xs))) (map summary_of xs)) (paths_reported xs)
-    ∙ ap (λ n. records_with (map name_of xs) (occurrences_after [] (paths_of xs)) (marks_from added 0 n) (map summary_of xs)) (as_many xs)
-    ∙ ap (λ ns. records_with (map name_of xs) ns (marks_from added 0 (length xs)) (map summary_of xs)) (sym right)
+    ap (λ (ps : List (List ℕ)). records_with (map name_of xs) (occurrences_after [] ps) (marks_from added 0 (length (map name_of xs))) (map input_summary xs)) (paths_reported xs)
+    ∙ ap (λ n. records_with (map name_of xs) (occurrences_after [] (paths_of xs)) (marks_from added 0 n) (map input_summary xs)) (as_many xs)
+    ∙ ap (λ ns. records_with (map name_of xs) ns (marks_from added 0 (length xs)) (map input_summary xs)) (sym right)
     ∙ inputs_reported added 0 xs
 
 -- ---- the names
@@ -66,7 +66,7 @@ references_reported (ref ∷ refs) = λ i. cons_option (reference_reported ref r
 -- ---- all of it
 
 gathered_reported : (options : OptionRecord) (xs : List Input) (resolution : ResolutionValue) (place : Placement) → OccurrencesAreRight xs → IsFound resolution (found_in options.entry xs)
-    → gathered options (map name_of xs) (map summary_of xs) resolution (recorded_of (resolve options xs).references) place ≡ records_of (resolve options xs) place
+    → gathered options (map name_of xs) (map input_summary xs) resolution (recorded_of (resolve options xs).references) place ≡ records_of (resolve options xs) place
 unfolding gathered records_of resolve
 gathered_reported options xs resolution place right found =
     λ i. record {
@@ -79,7 +79,7 @@ gathered_reported options xs resolution place right found =
     }
 
 pub link_recorded : (options : OptionRecord) (xs : List Input) (names : List InputName) (summaries : List InputSummary) (resolution : ResolutionValue) (references : List Reference) (place : Placement) (r : Result Records NoMemory)
-    → IfOk r (λ (records : Records). records ≡ gathered options names summaries resolution references place) → names ≡ map name_of xs → summaries ≡ map summary_of xs → OccurrencesAreRight xs → IsFound resolution (found_in options.entry xs)
+    → IfOk r (λ (records : Records). records ≡ gathered options names summaries resolution references place) → names ≡ map name_of xs → summaries ≡ map input_summary xs → OccurrencesAreRight xs → IsFound resolution (found_in options.entry xs)
     → references ≡ recorded_of (resolve options xs).references → IfOk r (λ (records : Records). records ≡ records_of (resolve options xs) place)
 link_recorded options xs names summaries resolution references place (Ok records) is of_names of_summaries right found of_references =
     is ∙ (λ i. gathered options (of_names i) (of_summaries i) resolution (of_references i) place) ∙ gathered_reported options xs resolution place right found

@@ -10,7 +10,7 @@ use Rattle.std.specs.Str.{bytes_eq}
 use Rattle.indexmap.specs.IndexMap.{insert_entry}
 use Rattle.lk_model.specs.Inputs.{FoundInput, count_of, found_in, input_words, inputs_after, inputs_of}
 use Rattle.lk_model.specs.Resolving.{paths_of}
-use Rattle.lk_inputs.specs.declared.input_names.InputName.{InputName}
+use Rattle.lk_model.specs.declared.input_names.InputName.{InputName}
 use Rattle.lk_records.specs.Occurrences.{CommandsAreCounted, PathNoted, count_under, occurrence_of, occurrences_after, occurrences_by, name_path, with_path}
 
 -- ---- one path

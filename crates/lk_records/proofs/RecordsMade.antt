@@ -8,7 +8,7 @@ use Rattle.lk_model.specs.declared.summaries.Contributions.{Contributions}
 use Rattle.lk_model.specs.declared.summaries.InputSummary.{InputSummary}
 use Rattle.lk_model.specs.declared.summaries.Winner.{Winner}
 use Rattle.lk_model.specs.RecordsOf.{name_row}
-use Rattle.lk_inputs.specs.declared.input_names.InputName.{InputName}
+use Rattle.lk_model.specs.declared.input_names.InputName.{InputName}
 use Rattle.lk_symtab.specs.NameRows.{NameRow, row_winner, symbols_in}
 use Rattle.lk_records.specs.AddedMarks.{is_added, marks_from}
 use Rattle.lk_records.specs.InputRecords.{record_with, records_with}

@@ -6,7 +6,7 @@ use Rattle.lk_model.specs.declared.records.Records.{Records}
 use Rattle.lk_model.specs.declared.records.Reference.{Reference}
 use Rattle.lk_model.specs.declared.summaries.InputSummary.{InputSummary}
 use Rattle.lk_model.specs.RecordsOf.{records_version}
-use Rattle.lk_inputs.specs.declared.input_names.InputName.{InputName}
+use Rattle.lk_model.specs.declared.input_names.InputName.{InputName}
 use Rattle.lk_resolve.specs.Settling.{ResolutionValue}
 use Rattle.lk_records.specs.AddedMarks.{marks_from}
 use Rattle.lk_records.specs.InputRecords.{records_with}

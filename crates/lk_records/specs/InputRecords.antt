@@ -2,7 +2,7 @@
 use Rattle.std.specs.Prelude.{ℕ, Bool, List, [], ◌∷◌}
 use Rattle.lk_model.specs.declared.records.InputRecord.{InputRecord}
 use Rattle.lk_model.specs.declared.summaries.InputSummary.{InputSummary}
-use Rattle.lk_inputs.specs.declared.input_names.InputName.{InputName}
+use Rattle.lk_model.specs.declared.input_names.InputName.{InputName}
 
 -- the record of an input
 abbrev pub record_with : InputName → ℕ → Bool → InputSummary → InputRecord

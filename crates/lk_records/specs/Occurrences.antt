@@ -8,7 +8,7 @@ use Rattle.lk_model.specs.declared.commands.Command.{Command}
 use Rattle.lk_model.specs.Inputs.{count_of, inputs_of}
 use Rattle.lk_model.specs.Resolving.{paths_of}
 use Rattle.lk_model.specs.Views.{Input}
-use Rattle.lk_inputs.specs.declared.input_names.InputName.{InputName}
+use Rattle.lk_model.specs.declared.input_names.InputName.{InputName}
 
 -- the path of an input, by what code holds of its name
 abbrev pub name_path : InputName → List ℕ

@@ -5,16 +5,16 @@ ghost use Rattle.lk_model.specs.RecordsOf.{records_of};
 ghost use Rattle.lk_model.specs.References.{recorded_of};
 ghost use Rattle.lk_model.specs.Resolving.{resolve};
 ghost use Rattle.lk_model.specs.Views.{Input};
-ghost use Rattle.lk_inputs.specs.Adding.{summary_of};
-ghost use Rattle.lk_inputs.specs.Named.{name_of};
-ghost use Rattle.lk_inputs.specs.Resolves.{found_in};
+ghost use Rattle.lk_model.specs.InputNames.{name_of};
+ghost use Rattle.lk_model.specs.InputNames.{input_summary};
+ghost use Rattle.lk_resolve.specs.Given.{found_in};
 ghost use Rattle.lk_records.specs.Gathered.{gathered};
 ghost use Rattle.lk_records.specs.Occurrences.{OccurrencesAreRight};
 ghost use Rattle.lk_resolve.specs.Settling.{IsFound};
 
 use crate::input_records::input_records;
 use crate::name_records::name_rows;
-use lk_inputs::InputName;
+use lk_model::input_names::InputName;
 use lk_model::layouts::Placement;
 use lk_model::records::{Records, ReferenceList};
 use lk_model::summaries::SummaryList;
@@ -81,7 +81,7 @@ pub fn link_records(
     placement: Placement,
 ) -> Result<Records, NoMemory>
     requires { length names.now ≡ length summaries }
-    ensures { (xs : List Input) → names.now ≡ map name_of xs → summaries ≡ map summary_of xs → OccurrencesAreRight xs → IsFound resolution.now (found_in options.now.entry xs) → references ≡ recorded_of (resolve options.now xs).references → IfOk result (λ records. records ≡ records_of (resolve options.now xs) placement) }
+    ensures { (xs : List Input) → names.now ≡ map name_of xs → summaries ≡ map input_summary xs → OccurrencesAreRight xs → IsFound resolution.now (found_in options.now.entry xs) → references ≡ recorded_of (resolve options.now xs).references → IfOk result (λ records. records ≡ records_of (resolve options.now xs) placement) }
 {
     gather(
         alloc, options, names, summaries, resolution, references, placement,

@@ -7,7 +7,7 @@ ghost use Rattle.lk_records.specs.Occurrences.{name_path, occurrences_after};
 
 use crate::added_marks::added_marks;
 use crate::occurrences::occurrences_of;
-use lk_inputs::InputName;
+use lk_model::input_names::InputName;
 use lk_model::records::{InputRecord, InputRecordList};
 use lk_model::summaries::{InputSummary, SummaryList};
 use lk_report::{List, NoMemory};

@@ -4,7 +4,7 @@ ghost use Rattle.std.specs.Prelude.{◌≡◌, ◌+◌, [], map, IfOk};
 ghost use Rattle.lk_records.specs.Occurrences.{PathNoted, count_under, name_path, occurrences_after};
 
 use indexmap::IndexMap;
-use lk_inputs::InputName;
+use lk_model::input_names::InputName;
 use lk_model::summaries::NumberList;
 use lk_report::{List, NoMemory};
 use std::alloc::Global;

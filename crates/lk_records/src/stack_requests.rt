@@ -5,8 +5,8 @@ ghost use Rattle.std.specs.List.{list_any};
 ghost use Rattle.lk_model.specs.FileHeader.{exec_stack_of};
 ghost use Rattle.lk_model.specs.Resolving.{resolve};
 ghost use Rattle.lk_model.specs.Views.{Input};
-ghost use Rattle.lk_inputs.specs.Adding.{summary_of};
-ghost use Rattle.lk_inputs.specs.Resolves.{found_in};
+ghost use Rattle.lk_model.specs.InputNames.{input_summary};
+ghost use Rattle.lk_resolve.specs.Given.{found_in};
 ghost use Rattle.lk_records.specs.StackRequests.{asks};
 ghost use Rattle.lk_report.specs.declared.causes.OptionRecord.{OptionRecord};
 ghost use Rattle.lk_resolve.specs.Settling.{IsFound};
@@ -34,7 +34,7 @@ fn any_asks(summaries: &[InputSummary], inputs: &[u32]) -> bool
 /// Whether an added object asks for an executable stack, by the summaries of all inputs.
 #[tactic(auto, using(crate::proofs::StacksAsked::stack_asked))]
 pub fn exec_stack(summaries: &[InputSummary], resolution: &Resolution) -> bool
-    ensures { (options : OptionRecord) (xs : List Input) → summaries.now ≡ map summary_of xs → IsFound resolution.now (found_in options.entry xs) → result ≡ exec_stack_of (resolve options xs) }
+    ensures { (options : OptionRecord) (xs : List Input) → summaries.now ≡ map input_summary xs → IsFound resolution.now (found_in options.entry xs) → result ≡ exec_stack_of (resolve options xs) }
 {
     any_asks(summaries, resolution.added().as_slice())
 }

@@ -24,7 +24,7 @@ use Rattle.lk_model.specs.Resolving.{paths_of, resolve}
 use Rattle.lk_model.specs.Views.{Elf, Input, KeptPiece, Resolved}
 use Rattle.lk_model.specs.Winners.{symbol_among}
 use Rattle.lk_model.proofs.Rising.{all_filter, all_map}
-use Rattle.lk_scan.proofs.AddedOnce.{IsIn, added_once, added_are_at, is_numbered, times}
+use Rattle.lk_model.proofs.AddedOnce.{IsIn, added_once, added_are_at, is_numbered, times}
 use Rattle.lk_relocate.specs.ObjectsOfInputs.{HoldsObject, IsObjectOf, object_in}
 use Rattle.lk_relocate.specs.PieceLists.{is_listed}
 use Rattle.lk_relocate.specs.Places.{KnownSection}

@@ -7,11 +7,11 @@ use Rattle.lk_model.specs.declared.layouts.Placement.{Placement}
 use Rattle.lk_model.specs.Finding.{found_of}
 use Rattle.lk_model.specs.FullPlace.{memory_of}
 use Rattle.lk_model.specs.Lawful.{Lawful}
-use Rattle.lk_model.specs.Objects.{r_symbol_of}
 use Rattle.lk_model.specs.Overflows.{path_of_input}
 use Rattle.lk_model.specs.Resolving.{paths_of, resolve}
 use Rattle.lk_model.specs.SymbolValues.{numbers_of}
 use Rattle.lk_model.specs.Views.{Input, Ref, Resolved}
+use Rattle.lk_elf.specs.RelocationInfo.{r_symbol_of}
 use Rattle.lk_resolve.specs.Settling.{ResolutionValue}
 use Rattle.lk_symbol_values.specs.SymbolNumbering.{ValueInputs, low_numbers, numbers_by, piece_start, place_at, relocation_of, symbol_numbers_of}
 use Rattle.lk_symbol_values.specs.declared.values.Relocation.{Relocation}

@@ -16,7 +16,7 @@ use Rattle.lk_model.specs.Objects.{four_zeros, is_frames, is_terminator, is_term
 use Rattle.lk_model.specs.Pieces.{key_of}
 use Rattle.lk_model.specs.Views.{Elf}
 use Rattle.lk_model.proofs.Rising.{all_map}
-use Rattle.lk_scan.proofs.AddedOnce.{times}
+use Rattle.lk_model.proofs.AddedOnce.{times}
 use Rattle.lk_relocate.specs.PieceLists.{is_listed}
 
 -- what is known of a piece of a file

@@ -17,7 +17,7 @@ use Rattle.lk_model.specs.Numbered.{Numbered}
 use Rattle.lk_model.specs.Objects.{relocations_in}
 use Rattle.lk_model.specs.References.{Sited, reference_of, references_of, sited_at, sited_in, sited_of}
 use Rattle.lk_model.specs.Views.{Elf, Input, KeptPiece, Ref, Resolved}
-use Rattle.lk_scan.proofs.AddedOnce.{is_numbered, times, times-append}
+use Rattle.lk_model.proofs.AddedOnce.{is_numbered, times, times-append}
 use Rattle.lk_relocate.specs.References.{piece_references, section_references}
 use Rattle.lk_relocate.proofs.Lists.{IsAlone, all_alone, filter-flat_map, filter_map_whole, flat_map-same, map-flat_map}
 

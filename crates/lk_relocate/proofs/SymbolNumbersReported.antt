@@ -18,9 +18,9 @@ use Rattle.lk_model.specs.References.{number_of_name, through_of}
 use Rattle.lk_model.specs.Resolving.{resolve}
 use Rattle.lk_model.specs.SymbolValues.{local_of, local_value, name_value, symbol_of}
 use Rattle.lk_model.specs.Views.{Elf, Input, Resolved, Through}
+use Rattle.lk_resolve.specs.Given.{IsGiven}
 use Rattle.lk_symtab.specs.NameRows.{all_symbols}
-use Rattle.lk_dyn_sizes.proofs.Seen.{seen}
-use Rattle.lk_dyn_sizes.specs.Given.{IsGiven}
+use Rattle.lk_resolve.proofs.Seen.{seen}
 use Rattle.lk_symbol_values.specs.InputSymbols.{symbol_in}
 use Rattle.lk_symbol_values.specs.SymbolNumbering.{ValueInputs, symbol_numbers_of}
 use Rattle.lk_symbol_values.specs.declared.values.SymbolNumbers.{SymbolNumbers}

@@ -9,8 +9,8 @@ use Rattle.lk_model.specs.FullPlace.{memory_of}
 use Rattle.lk_model.specs.Lawful.{Lawful}
 use Rattle.lk_model.specs.Resolving.{resolve}
 use Rattle.lk_model.specs.Views.{Input, Resolved}
+use Rattle.lk_resolve.specs.Given.{IsGiven}
 use Rattle.lk_resolve.specs.Settling.{ResolutionValue}
-use Rattle.lk_dyn_sizes.specs.Given.{IsGiven}
 use Rattle.lk_symbol_values.specs.SymbolNumbering.{ValueInputs}
 use Rattle.lk_relocate.specs.ObjectsOfInputs.{HoldsObject}
 

@@ -4,9 +4,10 @@ use Rattle.std.specs.Prelude.{◌≡◌, ℕ, List, Option, Some, None, slice_ge
 use Rattle.lk_elf.specs.declared.relocation.Rela.{Rela}
 use Rattle.lk_model.specs.declared.layouts.Placement.{Placement}
 use Rattle.lk_model.specs.Elf.{elf_of}
-use Rattle.lk_model.specs.Objects.{r_type_of, summary_in}
+use Rattle.lk_model.specs.Objects.{summary_in}
 use Rattle.lk_model.specs.References.{through_of}
 use Rattle.lk_model.specs.Views.{Resolved, Through}
+use Rattle.lk_elf.specs.RelocationInfo.{r_type_of}
 use Rattle.lk_symbol_values.specs.SymbolNumbering.{ValueInputs, piece_start, place_at, value_through, symbol_numbers_of}
 use Rattle.lk_symbol_values.specs.declared.values.Relocation.{Relocation}
 use Rattle.lk_symbol_values.specs.declared.values.SymbolNumbers.{SymbolNumbers}

@@ -3,10 +3,10 @@
 
 ghost use Rattle.std.specs.Prelude.{◌≡◌, ◌∷◌, ◌+◌, ◌++◌, ◌≤◌, [], All, length, OnOk};
 ghost use Rattle.std.specs.Option.{option_to_list};
-ghost use Rattle.lk_model.specs.Objects.{r_type_of};
 ghost use Rattle.lk_model.specs.Overflows.{overflow_of, path_of_input};
 ghost use Rattle.lk_model.specs.RelocationTypes.{width_of};
 ghost use Rattle.lk_model.specs.Views.{Resolved};
+ghost use Rattle.lk_elf.specs.RelocationInfo.{r_type_of};
 ghost use Rattle.lk_relocate.specs.Faults.{overflow_at, overflows};
 ghost use Rattle.lk_relocate.specs.Fields.{all_filled, filled_at};
 ghost use Rattle.lk_relocate.specs.ObjectsOfInputs.{IsObjectOf};
@@ -15,7 +15,6 @@ ghost use Rattle.lk_relocate.specs.References.{reference_in, references_by};
 ghost use Rattle.lk_relocate.specs.NumbersOfSymbols.{IsReady};
 
 use crate::object_sections::ObjectSection;
-use crate::relocations::code_of;
 use lk_elf::Rela;
 use lk_model::layouts::Numbers;
 use lk_reloc::{apply, value};
@@ -57,7 +56,7 @@ fn fill_field(
     ensures reported { (r : Resolved) → IsLinkOf section.now.resolution.now section.now.values.now section.now.placement.now r → IsObjectOf r.inputs section.now.input section.now.object.now → OnOk result (faults.new ≡ faults.old ++ option_to_list (overflow_of r section.now.placement.now (reference_in r section.now.input section.now.object.now section.now.section rela.now))) }
 {
     let numbers = section.relocation_numbers(rela);
-    let code = code_of(rela);
+    let code = rela.r_type();
     let value = value(code, &numbers);
     match apply(bytes, at, code, value) {
         Ok(()) => Ok(()),

@@ -21,7 +21,6 @@ mod object_sections;
 mod object_tables;
 mod piece_marks;
 mod piece_places;
-mod relocations;
 mod section_linking;
 
 pub use linking::link_pieces;

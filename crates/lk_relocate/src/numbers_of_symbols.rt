@@ -7,12 +7,10 @@ ghost use Rattle.lk_symtab.specs.NameRows.{all_symbols};
 ghost use Rattle.lk_relocate.specs.NumbersOfSymbols.{AreNumbersOf, AreNumbersAt, symbol_numbers_at};
 
 use crate::growing::make_room;
-use crate::relocations::symbol_of;
 use lk_elf::Rela;
 use lk_obj_read::Object;
 use lk_report::{Name, NoMemory};
 use lk_symbol_values::{SymbolNumbers, Values};
-use lk_symtab::SymTab;
 
 /// The values of symbols, by number, as far as they were asked for.
 pub(crate) type NumbersOfSymbols = Vec<Option<SymbolNumbers>>;
@@ -43,19 +41,11 @@ fn note_numbers(
     Ok(())
 }
 
-/// The number of a name, or how many names there are.
-#[tactic(auto, using(lk_scan::proofs::NamesSeen::number_reported))]
-fn number_of(names: &SymTab, name: &Name) -> u32
-    ensures { result ≡ number_of_name (all_symbols names.now) name.now }
-{
-    names.find(name).unwrap_or(names.len())
-}
-
 /// The number of a name among those that values are known of.
 fn name_number(values: &Values<'_>, name: &Name) -> u32
     ensures { result ≡ number_of_name (all_symbols values.now.resolution.rows) name.now }
 {
-    number_of(values.resolution().names(), name)
+    values.resolution().names().number_of(name)
 }
 
 /// The value of a symbol of an object, which is the input with this number: a name is looked up by its text, and a
@@ -111,7 +101,7 @@ pub(crate) fn learn_symbols(
     ensures { OnOk result (AreNumbersOf values.now input object.now numbers_by_symbol.new.items) }
 {
     for rela in relas {
-        learn_symbol(numbers_by_symbol, values, object, input, symbol_of(rela))?;
+        learn_symbol(numbers_by_symbol, values, object, input, rela.r_symbol())?;
     }
     Ok(())
 }

@@ -12,7 +12,6 @@ ghost use Rattle.lk_relocate.specs.NumbersOfSymbols.{IsReady, AreNumbersAt, relo
 ghost use Rattle.lk_symbol_values.specs.SymbolNumbering.{low_numbers};
 
 use crate::numbers_of_symbols::{NumbersOfSymbols, find_numbers, symbol_numbers_at};
-use crate::relocations::{code_of, symbol_of};
 use lk_elf::Rela;
 use lk_model::layouts::{Numbers, Placement};
 use lk_obj_read::Object;
@@ -44,7 +43,7 @@ fn relocation_at(start: Option<u64>, rela: &Rela) -> Relocation
 {
     Relocation {
         address: place_at(start, rela.r_offset),
-        code: code_of(rela),
+        code: rela.r_type(),
         addend: rela.r_addend,
     }
 }
@@ -79,7 +78,7 @@ impl<'a> ObjectSection<'a> {
         ensures exact { (r : Resolved) → IsLinkOf self.now.resolution.now self.now.values.now self.now.placement.now r → IsObjectOf r.inputs self.now.input self.now.object.now → result.s ≡ (numbers_of r self.now.placement.now (reference_in r self.now.input self.now.object.now self.now.section rela.now)).s }
     {
         let relocation = relocation_at(self.start, rela);
-        let symbol = symbol_of(rela);
+        let symbol = rela.r_symbol();
         let symbol_numbers = self.symbol_numbers(symbol);
         self.values.numbers(&relocation, &symbol_numbers)
     }

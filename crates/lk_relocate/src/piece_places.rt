@@ -1,20 +1,10 @@
 //! Where the bytes of a piece are in the file (this project's own).
 
 ghost use Rattle.std.specs.Prelude.{◌≡◌};
-ghost use Rattle.lk_model.specs.SectionKeys.{in_file};
 ghost use Rattle.lk_relocate.specs.Places.{place_in, place_with};
 
-use lk_model::layouts::{Class, PieceRow, Placement, SectionRow};
-
-/// Whether the file holds the bytes of a section of this class.
-fn in_file(class: Class) -> bool
-    ensures { result ≡ in_file class }
-{
-    match class {
-        Class::R | Class::X | Class::W | Class::WX | Class::Tdata | Class::N => true,
-        Class::Tbss | Class::Bss => false,
-    }
-}
+use lk_model::classes::in_file;
+use lk_model::layouts::{PieceRow, Placement, SectionRow};
 
 /// The place of a piece of a row in a file of `size` bytes, where `count` bytes of it lie there; none where these
 /// are more than the piece has.

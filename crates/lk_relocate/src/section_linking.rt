@@ -4,9 +4,10 @@
 ghost use Rattle.std.specs.Prelude.{◌≡◌, ◌+◌, ◌++◌, ◌≤◌, All, IsTrue, length, true, OnOk};
 ghost use Rattle.lk_model.specs.Elf.{elf_of};
 ghost use Rattle.lk_model.specs.LinkedBytes.{patch};
-ghost use Rattle.lk_model.specs.Objects.{r_type_of, is_piece_in, piece_bytes_in, relocations_in, summary_in};
+ghost use Rattle.lk_model.specs.Objects.{is_piece_in, piece_bytes_in, relocations_in, summary_in};
 ghost use Rattle.lk_model.specs.RelocationTypes.{width_of};
 ghost use Rattle.lk_model.specs.Views.{Resolved};
+ghost use Rattle.lk_elf.specs.RelocationInfo.{r_type_of};
 ghost use Rattle.lk_relocate.specs.Faults.{overflows};
 ghost use Rattle.lk_relocate.specs.Fields.{all_filled};
 ghost use Rattle.lk_relocate.specs.ObjectsOfInputs.{IsObjectOf};

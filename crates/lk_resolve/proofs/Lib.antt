@@ -14,3 +14,4 @@ pub mod ResolverSteps
 pub mod RowsMade
 pub mod FaultsOfRows
 pub mod ResolutionFound
+pub mod Seen

@@ -16,12 +16,13 @@ use Rattle.lk_model.specs.declared.summaries.InputSummary.{InputSummary}
 use Rattle.lk_model.specs.declared.summaries.Kind.{Kind}
 use Rattle.lk_model.specs.declared.summaries.PieceInfo.{PieceInfo}
 use Rattle.lk_model.specs.Groups.{claimed_by, dropped_by, is_left, signatures_in}
-use Rattle.lk_model.specs.KeptPieces.{is_loaded, loaded_names, section_piece}
+use Rattle.lk_model.specs.KeptPieces.{loaded_names, section_piece}
 use Rattle.lk_model.specs.Numbered.{Numbered, is_number_in}
 use Rattle.lk_model.specs.Symbols.{home_left}
 use Rattle.lk_resolve.specs.LeftSections.{dropped_once, home_in, left_in, loaded_in, place_in, place_of, places_in, sections_without, symbols_in}
 use Rattle.lk_resolve.specs.States.{asked_by, asked_by_all, asked_for}
 use Rattle.lk_resolve.proofs.ListSets.{any-distinct, same_any}
+use Rattle.lk_model.specs.SectionKeys.{is_alloc}
 
 and_false : (b : Bool) → (b && false) ≡ false
 and_false true = refl
@@ -106,19 +107,19 @@ module _ (left : List ℕ) (claimed : List (List ℕ)) (summary : InputSummary) 
   loaded-left input (p ∷ ps) = by (is_number_in left p.section) (is_left claimed summary p.section) (same p.section) (loaded-left input ps)
     where
       have : List PieceInfo
-      have = filter (λ (q : PieceInfo). is_number_in left q.section && is_loaded q.key.class) ps
+      have = filter (λ (q : PieceInfo). is_number_in left q.section && is_alloc q.key.class) ps
 
       want : List PieceInfo
       want = filter (λ (q : PieceInfo). is_left claimed summary q.section) ps
 
       load : (d : Bool) → map (λ (q : PieceInfo). q.key.name) have ≡ loaded_names (map (section_piece input) want)
-          → map (λ (q : PieceInfo). q.key.name) (cond d (p ∷ have) have) ≡ map (λ k. k.key.name) (cond d (section_piece input p ∷ filter (λ k. is_loaded k.key.class) (map (section_piece input) want)) (filter (λ k. is_loaded k.key.class) (map (section_piece input) want)))
+          → map (λ (q : PieceInfo). q.key.name) (cond d (p ∷ have) have) ≡ map (λ k. k.key.name) (cond d (section_piece input p ∷ filter (λ k. is_alloc k.key.class) (map (section_piece input) want)) (filter (λ k. is_alloc k.key.class) (map (section_piece input) want)))
       load true h = ap (λ l. p.key.name ∷ l) h
       load false h = h
 
       by : (a b : Bool) → a ≡ b → map (λ (q : PieceInfo). q.key.name) have ≡ loaded_names (map (section_piece input) want)
-          → map (λ (q : PieceInfo). q.key.name) (cond (a && is_loaded p.key.class) (p ∷ have) have) ≡ loaded_names (map (section_piece input) (cond b (p ∷ want) want))
-      by true true e h = load (is_loaded p.key.class) h
+          → map (λ (q : PieceInfo). q.key.name) (cond (a && is_alloc p.key.class) (p ∷ have) have) ≡ loaded_names (map (section_piece input) (cond b (p ∷ want) want))
+      by true true e h = load (is_alloc p.key.class) h
       by true false e h = absurd (cc)
       by false true e h = absurd (cc)
       by false false e h = h

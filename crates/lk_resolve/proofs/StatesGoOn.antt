@@ -10,7 +10,7 @@ use Rattle.lk_comdat.specs.ClaimLaws.{claims_after, with_claim}
 use Rattle.lk_model.specs.declared.summaries.Contribution.{Contribution}
 use Rattle.lk_model.specs.Finding.{is_dynamic}
 use Rattle.lk_model.specs.Groups.{claimed_by, is_left}
-use Rattle.lk_model.specs.KeptPieces.{is_loaded, kept_sections, loaded_names, pieces_left}
+use Rattle.lk_model.specs.KeptPieces.{kept_sections, loaded_names, pieces_left}
 use Rattle.lk_model.specs.Numbered.{Numbered, distinct, is_number_in, with_new}
 use Rattle.lk_model.specs.Symbols.{contributions_by, contributions_of, symbols_of}
 use Rattle.lk_model.specs.Views.{KeptPiece}
@@ -23,6 +23,7 @@ use Rattle.lk_resolve.proofs.SectionsLeft.{left_is, loaded-left, places-left, sy
 use Rattle.lk_symtab.specs.NameRows.{NameRow}
 use Rattle.lk_symtab.specs.SymbolLaws.{plain_row, with_own}
 use Rattle.lk_symtab.proofs.SymbolsFound.{table}
+use Rattle.lk_model.specs.SectionKeys.{is_alloc}
 
 rows-go-on : (added : List Numbered) (x : Numbered) (symbols : List Contribution) → symbols ≡ contributions_by (claimed_by added) x
     → fold with_own (map plain_row (contributions_of (symbols_of added))) symbols ≡ map plain_row (contributions_of (symbols_of (added ++ x ∷ [])))
@@ -54,8 +55,8 @@ kept-goes-on added x places same =
 
 loaded_names-append : (xs ys : List KeptPiece) → loaded_names (xs ++ ys) ≡ loaded_names xs ++ loaded_names ys
 loaded_names-append xs ys =
-    ap (map (λ (k : KeptPiece). k.key.name)) (filter-append (λ (k : KeptPiece). is_loaded k.key.class) xs ys)
-    ∙ map-append (λ (k : KeptPiece). k.key.name) (filter (λ (k : KeptPiece). is_loaded k.key.class) xs) (filter (λ (k : KeptPiece). is_loaded k.key.class) ys)
+    ap (map (λ (k : KeptPiece). k.key.name)) (filter-append (λ (k : KeptPiece). is_alloc k.key.class) xs ys)
+    ∙ map-append (λ (k : KeptPiece). k.key.name) (filter (λ (k : KeptPiece). is_alloc k.key.class) xs) (filter (λ (k : KeptPiece). is_alloc k.key.class) ys)
 
 loaded-goes-on : (added : List Numbered) (x : Numbered) (names : List (List ℕ)) → names ≡ loaded_names (pieces_left (claimed_by added) x)
     → fold (with_new bytes_eq) (distinct bytes_eq (loaded_names (kept_sections added))) names ≡ distinct bytes_eq (loaded_names (kept_sections (added ++ x ∷ [])))

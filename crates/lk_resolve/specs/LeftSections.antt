@@ -11,10 +11,10 @@ use Rattle.lk_model.specs.declared.summaries.InputSummary.{InputSummary}
 use Rattle.lk_model.specs.declared.summaries.Kind.{Kind}
 use Rattle.lk_model.specs.declared.summaries.PieceInfo.{PieceInfo}
 use Rattle.lk_model.specs.Groups.{dropped_by}
-use Rattle.lk_model.specs.KeptPieces.{is_loaded}
 use Rattle.lk_model.specs.Numbered.{distinct, is_number_in}
 use Rattle.lk_model.specs.Views.{KeptPiece}
 use Rattle.lk_resolve.specs.declared.section_places.SectionPlace.{SectionPlace}
+use Rattle.lk_model.specs.SectionKeys.{is_alloc}
 
 -- the sections that groups drop, each once, after these signatures were claimed
 abbrev pub dropped_once : List (List ℕ) → List Group → List ℕ
@@ -53,7 +53,7 @@ places_in left input pieces = map (place_in input) (filter (λ (p : PieceInfo). 
 
 -- the names of the loaded output sections that the pieces that are left go to
 abbrev pub loaded_in : List ℕ → List PieceInfo → List (List ℕ)
-loaded_in left pieces = map (λ (p : PieceInfo). p.key.name) (filter (λ (p : PieceInfo). is_number_in left p.section && is_loaded p.key.class) pieces)
+loaded_in left pieces = map (λ (p : PieceInfo). p.key.name) (filter (λ (p : PieceInfo). is_number_in left p.section && is_alloc p.key.class) pieces)
 
 -- whether two places are one section of one input
 abbrev pub is_same_place : SectionPlace → SectionPlace → Bool

@@ -8,3 +8,4 @@ pub mod NameSearches
 pub mod MadeRows
 pub mod RowFaults
 pub mod Settling
+pub mod Given

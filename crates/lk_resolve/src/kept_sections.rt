@@ -3,14 +3,13 @@
 
 ghost use Rattle.std.specs.Prelude.{◌≡◌, fold, OnOk};
 ghost use Rattle.std.specs.Str.{bytes_eq};
-ghost use Rattle.lk_model.specs.KeptPieces.{is_loaded};
 ghost use Rattle.lk_model.specs.Numbered.{with_new};
 ghost use Rattle.lk_resolve.specs.LeftSections.{is_same_place, loaded_in, places_in};
 
 use crate::section_places::SectionPlace;
 use crate::section_sets::Sections;
 use indexmap::IndexSet;
-use lk_model::layouts::Class;
+use lk_model::classes::is_alloc;
 use lk_model::summaries::PieceInfo;
 use lk_report::{Name, NoMemory};
 use std::alloc::Global;
@@ -46,17 +45,6 @@ pub fn keep_sections(
     Ok(())
 }
 
-/// Whether an output section of this class is loaded.
-fn is_loaded(class: Class) -> bool
-    ensures { result ≡ is_loaded class }
-{
-    match class {
-        Class::R | Class::X | Class::W | Class::WX | Class::Tdata | Class::Tbss | Class::Bss =>
-            true,
-        Class::N => false,
-    }
-}
-
 /// Puts a name into a set; it is copied where it is new.
 fn insert_name(alloc: Global, names: &mut IndexSet<Name>, name: &Name) -> Result<(), NoMemory>
     ensures { OnOk result (names.new.keys ≡ with_new bytes_eq names.old.keys name.now) }
@@ -81,7 +69,7 @@ pub fn note_loaded(
     ensures { OnOk result (loaded.new.keys ≡ fold (with_new bytes_eq) loaded.old.keys (loaded_in left.now.keys pieces.now)) }
 {
     for piece in pieces {
-        if left.contains(&piece.section) && is_loaded(piece.key.class) {
+        if left.contains(&piece.section) && is_alloc(piece.key.class) {
             insert_name(alloc, loaded, &piece.key.name)?;
         }
     }

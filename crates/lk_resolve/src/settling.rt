@@ -6,10 +6,8 @@ ghost use Rattle.lk_resolve.specs.Settling.{SettlesTo};
 use crate::resolution::Resolution;
 use crate::settle_faults::SettleFault;
 use crate::state::ResolverState;
+use lk_model::limits::MOST_NAMES;
 use lk_report::{FaultList, LimitFault, LimitKind};
-
-/// A link may have so many names.
-const MOST_NAMES: u32 = 1_048_576;
 
 /// Whether there is a fault.
 fn has_faults(faults: &FaultList) -> bool

@@ -16,7 +16,7 @@ use Rattle.lk_model.specs.References.{Sited, sited_at, sited_in, sited_of}
 use Rattle.lk_model.specs.Views.{Input, KeptPiece}
 use Rattle.lk_scan.specs.LinkScans.{input_references}
 use Rattle.lk_scan.specs.Scans.{references_in}
-use Rattle.lk_scan.proofs.AddedOnce.{IsIn, is_numbered, times, times-append}
+use Rattle.lk_model.proofs.AddedOnce.{IsIn, is_numbered, times, times-append}
 
 -- an added input with the signatures that were claimed before it
 abbrev Claimed : Type 0

@@ -8,6 +8,5 @@ pub mod Joined
 pub mod NeedsJoined
 pub mod ReferencesNoted
 pub mod PiecesNoted
-pub mod AddedOnce
 pub mod KeptByInput
 pub mod LinkScanned

@@ -13,7 +13,6 @@ use Rattle.lk_model.specs.declared.summaries.InputSummary.{InputSummary}
 use Rattle.lk_model.specs.declared.summaries.PieceInfo.{PieceInfo}
 use Rattle.lk_model.specs.Adding.{added_inputs}
 use Rattle.lk_model.specs.Finding.{Found, found_of, is_kept_in}
-use Rattle.lk_model.specs.KeptPieces.{is_loaded}
 use Rattle.lk_model.specs.NeedsOf.{address_needs, copy_needs, got_key_eq, got_needs, loaded_references, needs_of, plt_needs}
 use Rattle.lk_model.specs.Numbered.{with_new}
 use Rattle.lk_model.specs.Objects.{relocations_in, summary_in}
@@ -27,10 +26,11 @@ use Rattle.lk_scan.specs.declared.noting.Scan.{Scan}
 use Rattle.lk_scan.specs.LinkScans.{ObjectsAreScanned, ReferencesByInput, ScansAreTheLinks, SharedAreEmpty, all_joined, input_references, input_scan, joined, scan_of}
 use Rattle.lk_scan.specs.Noted.{nothing_noted}
 use Rattle.lk_scan.specs.Scans.{references_in}
-use Rattle.lk_scan.proofs.AddedOnce.{added_once, added_are_at}
+use Rattle.lk_model.proofs.AddedOnce.{added_once, added_are_at}
 use Rattle.lk_scan.proofs.Joined.{faults-again}
 use Rattle.lk_scan.proofs.KeptByInput.{sited_by_input}
 use Rattle.lk_scan.proofs.NeedsJoined.{needs-again, needs_after}
+use Rattle.lk_model.specs.SectionKeys.{is_alloc}
 
 -- a scan that goes on by the references of inputs
 module _ (found : Found) (inputs : List Input) where
@@ -49,7 +49,7 @@ module _ (found : Found) (inputs : List Input) where
   grown step start needs xs ys = sym (fold-append step start (flat_map needs xs) (flat_map needs ys)) ∙ ap (fold step start) (sym (flat_map-append needs xs ys))
 
   loaded-append : (a b : List Sited) → loaded_references (a ++ b) ≡ loaded_references a ++ loaded_references b
-  loaded-append a b = flat_map-append (λ (x : Sited). cond (is_loaded x.0.class) (x.1 ∷ []) []) a b
+  loaded-append a b = flat_map-append (λ (x : Sited). cond (is_alloc x.0.class) (x.1 ∷ []) []) a b
 
   needs-append : (n : Needs) (a b : List Ref) → needs_after found (needs_after found n a) b ≡ needs_after found n (a ++ b)
   needs-append n a b = λ i. record {

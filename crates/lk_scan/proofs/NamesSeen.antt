@@ -1,42 +1,19 @@
 -- What the table reports of a name by its number.
-use Rattle.std.proofs.Common.{◌≡◌, refl, sym, ap, ◌∙◌, arith, ℕ, ◌+◌, ◌<◌, ◌≤◌, Bool, true, false, cond, not, nat_lt, ltb-false, ltb-true, get_or, List, [], ◌∷◌, ◌++◌, length, map, Option, Some, None, option_map, option_and_then, unwrap_or, slice_get}
+use Rattle.std.proofs.Common.{◌≡◌, refl, sym, ap, ◌∙◌, arith, ℕ, ◌+◌, ◌<◌, ◌≤◌, Bool, true, false, nat_lt, ltb-false, ltb-true, get_or, List, [], ◌∷◌, ◌++◌, length, map, Option, Some, None, option_map, option_and_then, slice_get}
 use Rattle.std.proofs.lemmas.List.{length-map}
 use Rattle.std.proofs.lemmas.List.FromFn.{get_or-map-range_with_len, length-map-range_with_len, map-range_with_len_more}
 use Rattle.std.proofs.lemmas.Option.{slice_get_past}
-use Rattle.std.specs.List.{position_or_len, range_with_len}
-use Rattle.std.specs.Str.{bytes_eq}
+use Rattle.std.specs.List.{range_with_len}
 use Rattle.lk_report.specs.declared.faults.Fault.TheVariants as fault
 use Rattle.lk_report.specs.declared.faults.Site.{Site}
 use Rattle.lk_model.specs.declared.summaries.Contributions.{Contributions}
 use Rattle.lk_model.specs.declared.summaries.Winner.{Winner}
-use Rattle.lk_model.specs.References.{number_of_name}
 use Rattle.lk_model.specs.Winners.{import_symbol}
-use Rattle.lk_symtab.specs.NameRows.{NameRow, all_symbols, number_of, row_winner, symbols_in}
+use Rattle.lk_symtab.specs.NameRows.{NameRow, row_winner, symbols_in}
 use Rattle.lk_scan.specs.declared.targets.Target.{Target}
 use Rattle.lk_scan.specs.declared.targets.Way.TheVariants as way
 use Rattle.lk_scan.specs.ReferralFaults.{undefined_name_at}
 use Rattle.lk_scan.specs.Targets.{import_in, meanings_of, name_target, row_import, target_with, to_weak, unknown_target}
-
-within : {X : Type 0} (p : X → Bool) (xs : List X) → position_or_len p xs ≤ length xs
-within p [] = omega arith
-within p (x ∷ xs) = by (p x) (within p xs)
-  where
-    by : (b : Bool) → position_or_len p xs ≤ length xs → cond (not b) (1 + position_or_len p xs) 0 ≤ length (x ∷ xs)
-    by true later = omega arith
-    by false later = omega arith
-
--- a name that is found has its place, and another the number of all names
-place_reported : (q n : ℕ) → q ≤ n → unwrap_or (cond (nat_lt q n) (Some q) None) n ≡ q
-place_reported q n le = by (nat_lt q n) refl
-  where
-    by : (b : Bool) → nat_lt q n ≡ b → unwrap_or (cond b (Some q) None) n ≡ q
-    by true t = refl
-    by false t = let ge : n ≤ q = ltb-false q n t in omega arith
-
-pub number_reported : (rows : List NameRow) (name : List ℕ) → unwrap_or (number_of rows name) (length rows) ≡ number_of_name (all_symbols rows) name
-number_reported rows name =
-    ap (unwrap_or (number_of rows name)) (sym (length-map rows symbols_in))
-    ∙ place_reported (number_of_name (all_symbols rows) name) (length (all_symbols rows)) (within (λ (cs : Contributions). bytes_eq cs.name name) (all_symbols rows))
 
 -- a name that is there
 pub import_reported : (rows : List NameRow) (n : ℕ) (cs : Contributions) (w : Winner) → option_map symbols_in (slice_get rows n) ≡ Some cs → option_map row_winner (slice_get rows n) ≡ Some w → import_symbol cs w ≡ import_in rows n

@@ -8,10 +8,9 @@ use Rattle.lk_model.specs.declared.layouts.Needs.{Needs}
 use Rattle.lk_model.specs.declared.summaries.InputSummary.{InputSummary}
 use Rattle.lk_model.specs.declared.summaries.PieceInfo.{PieceInfo}
 use Rattle.lk_model.specs.Finding.{Found, is_kept_in}
-use Rattle.lk_model.specs.KeptPieces.{is_loaded}
 use Rattle.lk_model.specs.NeedsOf.{address_needs, copy_needs, got_key_eq, got_needs, loaded_references, needs_of, plt_needs}
 use Rattle.lk_model.specs.Numbered.{with_new}
-use Rattle.lk_model.specs.Objects.{r_type_of, pieces_in, relocations_in, summary_in, r_symbol_of}
+use Rattle.lk_model.specs.Objects.{pieces_in, relocations_in, summary_in}
 use Rattle.lk_model.specs.References.{Sited, recorded_of, reference_of, references_of, sited_in, through_of}
 use Rattle.lk_model.specs.ScanFaults.{faults_at, faults_in, reported_once, with_fault}
 use Rattle.lk_model.specs.Views.{Elf, Ref, Through}
@@ -30,6 +29,9 @@ use Rattle.lk_scan.specs.LinkScans.{joined, scan_of}
 use Rattle.lk_scan.proofs.Joined.{faults-again}
 use Rattle.lk_scan.proofs.NeedsJoined.{needs-again, needs_after}
 use Rattle.lk_scan.proofs.ReferencesNoted.{faults_noted, needs_noted, recorded_noted, resolution_in}
+use Rattle.lk_model.specs.SectionKeys.{is_alloc}
+use Rattle.lk_elf.specs.RelocationInfo.{r_type_of}
+use Rattle.lk_elf.specs.RelocationInfo.{r_symbol_of}
 
 -- what is kept after references of the model
 abbrev after : Found → Elf → Scan → List Sited → Scan
@@ -68,7 +70,7 @@ module _ (resolution : ResolutionValue) (found : Found) (elf : Elf) (summary : I
   -- one more reference
   next : (p : PieceInfo) (s : Scan) (rela : Rela) (rest : List Sited) → after here elf (with_referral resolution.rows (get_or resolution.paths input []) (setting_of p.key) s (referral_of resolution elf summary input p.section rela)) rest ≡ after here elf s (sited p rela ∷ rest)
   next p s rela rest = λ i. record {
-    needs = needs_next here (is_loaded p.key.class) s.needs (needs_with s.needs (referral_of resolution elf summary input p.section rela)) (reference_of (all_symbols resolution.rows) summary input p.section rela) (loaded_references rest)
+    needs = needs_next here (is_alloc p.key.class) s.needs (needs_with s.needs (referral_of resolution elf summary input p.section rela)) (reference_of (all_symbols resolution.rows) summary input p.section rela) (loaded_references rest)
         (needs_noted resolution found elf input kept p.section rela.r_offset (r_type_of rela) rela.r_addend s.needs T) i;
     reported = reported i;
     references = references i;

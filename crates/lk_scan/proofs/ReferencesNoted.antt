@@ -14,7 +14,6 @@ use Rattle.lk_model.specs.declared.summaries.Global.{Global}
 use Rattle.lk_model.specs.declared.summaries.Winner.{Winner}
 use Rattle.lk_model.specs.Finding.{Found, contributions_in, is_kept_in}
 use Rattle.lk_model.specs.Forms.{is_address_form, is_thread_offset, r_x86_64_plt32}
-use Rattle.lk_model.specs.KeptPieces.{is_loaded}
 use Rattle.lk_model.specs.NeedsOf.{address_needs, copy_needs, got_key_eq, got_needs, import_named, is_callable, is_variable, plt_needs}
 use Rattle.lk_model.specs.Numbered.{with_new}
 use Rattle.lk_model.specs.Objects.{local_in}
@@ -31,6 +30,7 @@ use Rattle.lk_scan.specs.declared.targets.Way.TheVariants as way
 use Rattle.lk_scan.specs.ReferralFaults.{faults_on, is_empty_copy, of_import, undefined_name_at}
 use Rattle.lk_scan.specs.ReferralNeeds.{needs_of_some, needs_with, needs_with_slots, recorded_on}
 use Rattle.lk_scan.specs.Targets.{import_in, import_seen, name_target, row_import, setting_of, target_at, target_with, unknown_target}
+use Rattle.lk_model.specs.SectionKeys.{is_alloc}
 
 -- a choice inside a choice
 swapped : (b : Bool) (o : Option Contributions) (h : Contributions → List Fault) → cond {A = List Fault} b (elim o [ None ↦ [] | Some cs ↦ h cs ]) [] ≡ elim o [ None ↦ [] | Some cs ↦ cond b (h cs) [] ]
@@ -147,14 +147,14 @@ module _ (resolution : ResolutionValue) (found : Found) (elf : Elf) (input : ℕ
     pub faults_noted : (key : SectionKey) (T : Through) → faults_on resolution.rows (get_or resolution.paths input []) (setting_of key) (referral (target_at resolution elf input T)) ≡ faults_at here elf (key, ref T)
     faults_noted key (Through.ByLocal s) =
         λ i. cond (needs_local_sections key && of_local_section (local_in elf s) (λ k. not (kept input k i))) (fault.DroppedLocal site ∷ []) []
-        ++ cond (is_unsupported here elf (is_loaded key.class) (ref (Through.ByLocal s))) (fault.Unsupported code site ∷ []) []
-        ++ cond (is_loaded key.class) [] []
+        ++ cond (is_unsupported here elf (is_alloc key.class) (ref (Through.ByLocal s))) (fault.Unsupported code site ∷ []) []
+        ++ cond (is_alloc key.class) [] []
     faults_noted key (Through.ByName n weak) =
         (λ i. faults_on resolution.rows (get_or resolution.paths input []) (setting_of key) (referral (target_is n weak i)))
         ∙ (λ i. undefined i
         ++ cond (needs_local_sections key && false) (fault.DroppedLocal site ∷ []) []
-        ++ cond (is_unsupported here elf (is_loaded key.class) (ref (Through.ByName n weak))) (fault.Unsupported code site ∷ []) []
-        ++ cond (is_loaded key.class) (imported n weak (target_here n weak) (import_named here n) (import_is n) i) [])
+        ++ cond (is_unsupported here elf (is_alloc key.class) (ref (Through.ByName n weak))) (fault.Unsupported code site ∷ []) []
+        ++ cond (is_alloc key.class) (imported n weak (target_here n weak) (import_named here n) (import_is n) i) [])
       where
         is_undefined : Bool
         is_undefined = not weak && of_name here n (λ others w. is_nothing w)

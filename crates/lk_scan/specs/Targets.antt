@@ -7,8 +7,7 @@ use Rattle.lk_model.specs.declared.summaries.Contributions.{Contributions}
 use Rattle.lk_model.specs.declared.summaries.Global.{Global}
 use Rattle.lk_model.specs.declared.summaries.InputSummary.{InputSummary}
 use Rattle.lk_model.specs.declared.summaries.Winner.{Winner}
-use Rattle.lk_model.specs.KeptPieces.{is_loaded}
-use Rattle.lk_model.specs.Objects.{r_type_of, local_in, r_symbol_of}
+use Rattle.lk_model.specs.Objects.{local_in}
 use Rattle.lk_model.specs.References.{through_of}
 use Rattle.lk_model.specs.ScanFaults.{is_tls_local, is_tls_section, needs_local_sections, of_local_section}
 use Rattle.lk_model.specs.Views.{Elf, Through}
@@ -20,6 +19,9 @@ use Rattle.lk_scan.specs.declared.targets.Referral.{Referral}
 use Rattle.lk_scan.specs.declared.targets.Setting.{Setting}
 use Rattle.lk_scan.specs.declared.targets.Target.{Target}
 use Rattle.lk_scan.specs.declared.targets.Way.TheVariants as way
+use Rattle.lk_model.specs.SectionKeys.{is_alloc}
+use Rattle.lk_elf.specs.RelocationInfo.{r_type_of}
+use Rattle.lk_elf.specs.RelocationInfo.{r_symbol_of}
 
 -- the symbol in a shared input that the name of a number means, where it means an import
 abbrev pub row_import : NameRow → Option Global
@@ -91,4 +93,4 @@ referral_of resolution elf summary input section rela = record {
 
 -- what an output section says of references in it
 abbrev pub setting_of : SectionKey → Setting
-setting_of key = record { is_loaded = is_loaded key.class; wants_sections = needs_local_sections key }
+setting_of key = record { is_loaded = is_alloc key.class; wants_sections = needs_local_sections key }

@@ -4,9 +4,8 @@
 ghost use Rattle.std.specs.Prelude.{◌≡◌, ◌==◌, option_map};
 ghost use Rattle.std.specs.Option.{option_copied};
 ghost use Rattle.lk_elf.specs.Numbers.{stt_tls};
-ghost use Rattle.lk_model.specs.References.{number_of_name};
 ghost use Rattle.lk_model.specs.Winners.{import_symbol, is_nothing, is_symbol_of, is_tls_winner, symbol_among, symbol_of_winner};
-ghost use Rattle.lk_symtab.specs.NameRows.{all_symbols};
+ghost use Rattle.lk_symtab.specs.NameRows.{};
 ghost use Rattle.lk_scan.specs.Targets.{import_in, import_seen, name_target, target_with, unknown_target};
 
 use crate::targets::{Import, Target, Way};
@@ -14,14 +13,6 @@ use lk_elf::numbers::STT_TLS;
 use lk_model::summaries::{Contribution, Contributions, Global as Symbol, Winner};
 use lk_report::Name;
 use lk_symtab::SymTab;
-
-/// The number of a name, or how many names there are.
-#[tactic(auto, using(crate::proofs::NamesSeen::number_reported))]
-pub fn number_of(names: &SymTab, name: &Name) -> u32
-    ensures { result ≡ number_of_name (all_symbols names.now) name.now }
-{
-    names.find(name).unwrap_or(names.len())
-}
 
 /// Whether a contribution is this symbol of this input.
 fn is_symbol_of(input: u32, symbol: u32, contribution: &Contribution) -> bool

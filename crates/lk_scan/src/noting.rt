@@ -3,8 +3,7 @@
 
 ghost use Rattle.std.specs.Prelude.{◌≡◌, ◌<◌, ◌++◌, [], true, false, IsTrue, OnOk, get_or, length};
 ghost use Rattle.lk_model.specs.Elf.{elf_of};
-ghost use Rattle.lk_model.specs.KeptPieces.{is_loaded};
-ghost use Rattle.lk_model.specs.Objects.{r_type_of, is_piece_in, relocations_in, summary_in, r_symbol_of};
+ghost use Rattle.lk_model.specs.Objects.{is_piece_in, relocations_in, summary_in};
 ghost use Rattle.lk_model.specs.ScanFaults.{is_eh_frame};
 ghost use Rattle.lk_scan.specs.Noted.{nothing_noted, with_pieces, with_referral, with_relas};
 ghost use Rattle.lk_scan.specs.ReferralNeeds.{recorded_on};
@@ -13,10 +12,11 @@ ghost use Rattle.lk_scan.specs.Targets.{referral_of, setting_of};
 
 use crate::need_sets::NeedSets;
 use crate::referral_faults::note_faults;
-use crate::reported_faults::FileAnswers;
+use crate::reported_faults::ReportedNames;
 use crate::symbol_targets::symbol_target;
 use crate::targets::{Referral, Setting, Target, Way};
 use lk_elf::Rela;
+use lk_model::classes::is_alloc;
 use lk_model::layouts::{Class, SectionKey};
 use lk_model::records::{Reference, ReferenceList};
 use lk_model::summaries::PieceInfo;
@@ -30,7 +30,7 @@ use std::alloc::Global;
 #[derive(Drop)]
 pub struct Scan {
     pub needs: NeedSets,
-    pub reported: FileAnswers,
+    pub reported: ReportedNames,
     pub references: ReferenceList,
 }
 
@@ -40,19 +40,8 @@ pub fn new_scan(alloc: Global) -> Scan
 {
     Scan {
         needs: NeedSets::new(alloc),
-        reported: FileAnswers::new(alloc),
+        reported: ReportedNames::new(alloc),
         references: List::new(alloc),
-    }
-}
-
-/// Whether an output section of this class is loaded.
-fn is_loaded(class: Class) -> bool
-    ensures { result ≡ is_loaded class }
-{
-    match class {
-        Class::R | Class::X | Class::W | Class::WX | Class::Tdata | Class::Tbss | Class::Bss =>
-            true,
-        Class::N => false,
     }
 }
 
@@ -78,27 +67,11 @@ fn is_eh_frame(key: &SectionKey) -> bool
 fn setting_of(key: &SectionKey) -> Setting
     ensures { result ≡ setting_of key.now }
 {
-    let is_loaded = is_loaded(key.class);
+    let is_loaded = is_alloc(key.class);
     Setting {
         is_loaded,
         wants_sections: is_loaded && !is_eh_frame(key),
     }
-}
-
-/// The number of a relocation's symbol.
-fn symbol_of(rela: &Rela) -> u32
-    ensures { result ≡ r_symbol_of rela.now }
-{
-    let info = rela.r_info;
-    (info / 0x1_0000_0000) as u32
-}
-
-/// The number of a relocation's type.
-fn code_of(rela: &Rela) -> u32
-    ensures { result ≡ r_type_of rela.now }
-{
-    let info = rela.r_info;
-    (info % 0x1_0000_0000) as u32
 }
 
 /// Notes what an image records of a reference.
@@ -153,9 +126,9 @@ fn referral_of(
         input,
         section,
         offset: rela.r_offset,
-        code: code_of(rela),
+        code: rela.r_type(),
         addend: rela.r_addend,
-        target: symbol_target(targets, resolution, object, input, symbol_of(rela)),
+        target: symbol_target(targets, resolution, object, input, rela.r_symbol()),
     }
 }
 

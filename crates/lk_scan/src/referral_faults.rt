@@ -11,7 +11,7 @@ use crate::forms::{
     is_thread_offset, is_thread_slot_form,
 };
 use crate::name_targets::import_at;
-use crate::reported_faults::FileAnswers;
+use crate::reported_faults::ReportedNames;
 use crate::targets::{Import, Referral, Setting, Target, Way};
 use lk_elf::numbers::STT_OBJECT;
 use lk_report::{Fault, Name, NoMemory};
@@ -20,7 +20,7 @@ use lk_symtab::SymTab;
 /// Reports that the name of a number is undefined.
 #[tactic(auto, using(crate::proofs::NamesSeen::named_at, crate::proofs::NamesSeen::unnamed))]
 fn report_name(
-    reported: &mut FileAnswers,
+    reported: &mut ReportedNames,
     names: &SymTab,
     path: &Name,
     number: u32,
@@ -37,7 +37,7 @@ fn report_name(
 
 /// Notes that a reference goes to a name that nothing defines.
 fn note_undefined(
-    reported: &mut FileAnswers,
+    reported: &mut ReportedNames,
     names: &SymTab,
     path: &Name,
     referral: &Referral,
@@ -55,7 +55,7 @@ fn note_undefined(
 
 /// Notes that a reference goes to a LOCAL symbol of a section that is not linked.
 fn note_dropped(
-    reported: &mut FileAnswers,
+    reported: &mut ReportedNames,
     path: &Name,
     setting: Setting,
     referral: &Referral,
@@ -83,7 +83,7 @@ fn is_refused(loaded: bool, target: Target, code: u32) -> bool
 
 /// Notes that a type is not supported.
 fn note_unsupported(
-    reported: &mut FileAnswers,
+    reported: &mut ReportedNames,
     path: &Name,
     setting: Setting,
     referral: &Referral,
@@ -107,7 +107,7 @@ fn is_empty_copy(code: u32, import: Import) -> bool
 
 /// Reports that the copy of an import is empty.
 fn report_empty_copy(
-    reported: &mut FileAnswers,
+    reported: &mut ReportedNames,
     names: &SymTab,
     path: &Name,
     number: u32,
@@ -123,7 +123,7 @@ fn report_empty_copy(
 
 /// Reports that a thread-local import is reached directly.
 fn report_direct_tls(
-    reported: &mut FileAnswers,
+    reported: &mut ReportedNames,
     names: &SymTab,
     path: &Name,
     number: u32,
@@ -143,7 +143,7 @@ fn report_direct_tls(
 
 /// Notes that a reference to an import needs an empty copy.
 fn note_empty_copy(
-    reported: &mut FileAnswers,
+    reported: &mut ReportedNames,
     names: &SymTab,
     path: &Name,
     referral: &Referral,
@@ -159,7 +159,7 @@ fn note_empty_copy(
 
 /// Notes that a reference reaches a thread-local import directly.
 fn note_direct_tls(
-    reported: &mut FileAnswers,
+    reported: &mut ReportedNames,
     names: &SymTab,
     path: &Name,
     referral: &Referral,
@@ -176,7 +176,7 @@ fn note_direct_tls(
 /// Notes the faults of a reference to an import.
 #[tactic(auto, using(crate::proofs::Folds::folded_twice))]
 fn note_import(
-    reported: &mut FileAnswers,
+    reported: &mut ReportedNames,
     names: &SymTab,
     path: &Name,
     referral: &Referral,
@@ -191,7 +191,7 @@ fn note_import(
 
 /// Notes the faults of a reference in a loaded piece to an import, where it goes to one.
 fn note_imported(
-    reported: &mut FileAnswers,
+    reported: &mut ReportedNames,
     names: &SymTab,
     path: &Name,
     setting: Setting,
@@ -211,7 +211,7 @@ fn note_imported(
 /// Notes the faults of a reference in the file with this path.
 #[tactic(auto, using(crate::proofs::Folds::folded_four))]
 pub fn note_faults(
-    reported: &mut FileAnswers,
+    reported: &mut ReportedNames,
     names: &SymTab,
     path: &Name,
     setting: Setting,

@@ -15,14 +15,14 @@ use std::marker::Model;
 
 /// The faults so far. Contracts see it as their list.
 #[derive(Drop)]
-pub struct FileAnswers {
+pub struct ReportedNames {
     alloc: Global,
     faults: FaultList,
     undefined: IndexSet<Name>,
     copied: IndexSet<Name>,
 }
 
-impl Model for FileAnswers {
+impl Model for ReportedNames {
     ghost use Rattle.std.specs.Prelude.{List};
     ghost use Rattle.lk_report.specs.declared.faults.Fault.{Fault};
     ghost use Rattle.lk_scan.specs.ReferralFaults.{IsIndexed};
@@ -53,12 +53,12 @@ fn put(names: &mut IndexSet<Name>, name: Name)
     let _put = names.insert(name);
 }
 
-impl FileAnswers {
+impl ReportedNames {
     /// No fault is reported.
-    pub fn new(alloc: Global) -> FileAnswers
+    pub fn new(alloc: Global) -> ReportedNames
         ensures { result ≡ [] }
     {
-        FileAnswers {
+        ReportedNames {
             alloc,
             faults: List::new(alloc),
             undefined: IndexSet::new(alloc),
@@ -140,7 +140,7 @@ impl FileAnswers {
     pub fn into_faults(self) -> FaultList
         ensures { result ≡ self }
     {
-        let FileAnswers {
+        let ReportedNames {
             alloc: _alloc,
             faults,
             undefined: _undefined,

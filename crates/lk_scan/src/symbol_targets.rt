@@ -8,7 +8,7 @@ ghost use Rattle.lk_scan.specs.Targets.{meanings_of, symbol_target};
 
 use crate::local_targets::local_target;
 use crate::name_meanings::NameMeanings;
-use crate::name_targets::{name_target, number_of};
+use crate::name_targets::name_target;
 use crate::targets::Target;
 use lk_elf::numbers::STB_WEAK;
 use lk_model::summaries::Global as Symbol;
@@ -22,7 +22,7 @@ pub fn global_target(names: &SymTab, meanings: Option<&NameMeanings>, global: &S
     requires { IfSome meanings (λ m. m.now ≡ meanings_of names.now) }
     ensures { result ≡ global_target names.now global.now }
 {
-    let number = number_of(names, &global.name);
+    let number = names.number_of(&global.name);
     let weak = global.binding == STB_WEAK as u32;
     match meanings {
         Some(meanings) => meanings.target(number, weak),

@@ -13,10 +13,10 @@ use Rattle.lk_model.specs.Resolving.{resolve}
 use Rattle.lk_model.specs.ScanFaults.{scan_faults}
 use Rattle.lk_model.specs.Views.{Elf, Input, Resolved}
 use Rattle.lk_model.proofs.Finding.{found_in-resolve}
+use Rattle.lk_resolve.specs.Given.{found_in}
 use Rattle.lk_inputs.specs.declared.input_files.InputFile.{InputFile}
-use Rattle.lk_inputs.specs.declared.input_names.InputName.{InputName}
+use Rattle.lk_model.specs.declared.input_names.InputName.{InputName}
 use Rattle.lk_inputs.specs.Named.{files_of}
-use Rattle.lk_inputs.specs.Resolves.{found_in}
 use Rattle.lk_resolve.specs.Settling.{IsFound, ResolutionValue}
 use Rattle.lk_scan.specs.LinkScans.{ScansAreTheLinks, all_joined, input_scan, joined, scan_of}
 use Rattle.lk_scan.specs.Noted.{nothing_noted}

@@ -7,7 +7,7 @@ use Rattle.lk_model.specs.ObjectChecks.{object_fault}
 use Rattle.lk_model.specs.Objects.{summary_in}
 use Rattle.lk_model.specs.Views.{Input}
 use Rattle.lk_inputs.specs.declared.input_files.InputFile.{InputFile}
-use Rattle.lk_inputs.specs.declared.input_names.InputName.{InputName}
+use Rattle.lk_model.specs.declared.input_names.InputName.{InputName}
 use Rattle.lk_scan_inputs.specs.declared.object_reading.LinkObjects.{LinkObjects}
 
 -- an input that is an object without a fault, as it was read of its file

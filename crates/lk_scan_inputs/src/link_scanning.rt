@@ -4,16 +4,17 @@ ghost use Rattle.std.specs.Prelude.{◌≡◌, ◌≤◌, List, [], filter_map, 
 ghost use Rattle.lk_report.specs.declared.causes.OptionRecord.{OptionRecord};
 ghost use Rattle.lk_model.specs.Resolving.{resolve};
 ghost use Rattle.lk_model.specs.Views.{Input};
+ghost use Rattle.lk_resolve.specs.Given.{found_in};
 ghost use Rattle.lk_inputs.specs.FilesRead.{fault_in, summary_of};
 ghost use Rattle.lk_inputs.specs.Named.{files_of};
-ghost use Rattle.lk_inputs.specs.Resolves.{found_in};
 ghost use Rattle.lk_resolve.specs.Settling.{IsFound};
 ghost use Rattle.lk_scan_inputs.specs.Objects.{AreObjects};
 ghost use Rattle.lk_scan_inputs.specs.Scans.{InputsScanned};
 
 use crate::object_reading::{ObjectList, read_objects};
 use crate::object_scans::scan_objects;
-use lk_inputs::{InputFileList, InputNameList};
+use lk_inputs::InputFileList;
+use lk_model::input_names::InputNameList;
 use lk_model::layouts::Needs;
 use lk_model::records::ReferenceList;
 use lk_model::summaries::InputSummary;

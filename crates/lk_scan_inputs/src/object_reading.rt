@@ -12,7 +12,8 @@ ghost use Rattle.lk_inputs.specs.FilesRead.{fault_in, summary_of};
 ghost use Rattle.lk_scan_inputs.specs.Objects.{HasObjects, marked_objects, objects_of, with_input};
 
 use crate::added_marks::added_marks;
-use lk_inputs::{InputFile, InputFileList, InputName, InputNameList};
+use lk_inputs::{InputFile, InputFileList};
+use lk_model::input_names::{InputName, InputNameList};
 use lk_model::summaries::InputSummary;
 use lk_obj_read::{Object, copy_summary, object_of};
 use lk_report::{Bytes, List, NoMemory};

@@ -29,7 +29,7 @@ use Rattle.lk_model.specs.declared.summaries.Winner.{Winner}
 use Rattle.lk_model.specs.declared.summaries.Winner.TheVariants as winner
 use Rattle.lk_model.proofs.KeysFound.{same_key_reports}
 use Rattle.lk_symtab.specs.NameRows.{NameRow}
-use Rattle.lk_dyn_sizes.proofs.Seen.{Sees}
+use Rattle.lk_resolve.proofs.Seen.{Sees}
 use Rattle.lk_symbol_values.specs.NameValues.{given_at, given_in}
 use Rattle.lk_symbol_values.specs.Sections.{low_64}
 use Rattle.lk_symbol_values.specs.SymbolNumbering.{ValueInputs, value_at}

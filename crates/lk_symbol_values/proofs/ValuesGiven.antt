@@ -21,9 +21,9 @@ use Rattle.lk_model.specs.declared.summaries.Global.{Global}
 use Rattle.lk_model.specs.declared.summaries.InputSummary.{InputSummary}
 use Rattle.lk_model.specs.declared.summaries.Winner.{Winner}
 use Rattle.lk_model.specs.declared.summaries.Winner.TheVariants as winner
+use Rattle.lk_model.specs.InputNames.{input_summary}
 use Rattle.lk_symtab.specs.NameRows.{NameRow, number_of, row_winner, symbols_in}
-use Rattle.lk_dyn_sizes.proofs.Seen.{Sees}
-use Rattle.lk_dyn_sizes.specs.Given.{input_summary}
+use Rattle.lk_resolve.proofs.Seen.{Sees}
 use Rattle.lk_symbol_values.specs.InputSymbols.{has_number, symbol_in}
 use Rattle.lk_symbol_values.specs.NameValues.{call_in, given_in, slot_content_by, made_by, size_in, value_in}
 use Rattle.lk_symbol_values.specs.Sections.{low_64}

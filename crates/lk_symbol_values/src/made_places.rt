@@ -9,10 +9,8 @@ use crate::sections::{
     is_name, second_segment_end, section_end, section_start, section_start_or_zero,
     third_segment_end,
 };
+use lk_model::images::LOAD_BASE;
 use lk_model::layouts::{Class, Placement};
-
-/// Where the file is loaded.
-const LOAD_BASE: u64 = 0x400000;
 
 /// Where a section begins and ends, by the low bits.
 #[derive(Clone, Copy)]

@@ -6,8 +6,9 @@ ghost use Rattle.lk_model.specs.Numbered.{is_number_in, with_new};
 ghost use Rattle.lk_symbol_values.specs.MadeValues.{bound_of, bound_of_row, bound_value_by, end_or_zero, is_bound_row, made_in, sections_of_pieces, start_or_zero, FindsBounds};
 
 use crate::made_places::{Bound, MadePlaces, fixed_value, made_places};
-use crate::sections::{exact, same_class};
+use crate::sections::exact;
 use indexmap::{IndexMap, IndexSet};
+use lk_model::classes::same_class;
 use lk_model::layouts::{Class, PieceRow, Placement, SectionRow};
 use lk_report::{Name, NoMemory};
 use std::alloc::Global;

@@ -4,17 +4,16 @@ ghost use Rattle.std.specs.Prelude.{◌≡◌, ◌+◌, ◌<◌, ◌^◌, bytes_
 ghost use Rattle.std.specs.Option.{option_copied, option_map};
 ghost use Rattle.lk_model.specs.Keys.{row_of};
 ghost use Rattle.lk_model.specs.MadeSymbols.{end_of, start_of};
-ghost use Rattle.lk_model.specs.SectionKeys.{class_number, named, same_class, same_key};
+ghost use Rattle.lk_model.specs.SectionKeys.{named, same_key};
 ghost use Rattle.lk_model.specs.Segments.{second_segment_end, third_segment_end};
 ghost use Rattle.lk_symbol_values.specs.Sections.{address_of_row, low_64, memory_end_in, segment_named};
 
+use lk_model::classes::same_class;
+use lk_model::images::FIRST_ADDRESS;
 use lk_model::layouts::{Class, Placement, SectionKey, SectionRow};
 
 /// The first number that a field of eight bytes cannot hold.
 const FIELD_END: u128 = 0x1_0000_0000_0000_0000;
-/// Where the first section begins.
-const FIRST_ADDRESS: u128 = 0x401000;
-
 /// A loaded segment that has an end of its own.
 #[derive(Clone, Copy)]
 pub(crate) enum Loaded {
@@ -37,29 +36,6 @@ pub(crate) fn exact(n: u64) -> u64
     ensures same { result ≡ n }
 {
     n
-}
-
-/// A class by its number.
-fn class_number(class: Class) -> u8
-    ensures { result ≡ class_number class }
-{
-    match class {
-        Class::R => 0,
-        Class::X => 1,
-        Class::W => 2,
-        Class::WX => 3,
-        Class::Tdata => 4,
-        Class::Tbss => 5,
-        Class::Bss => 6,
-        Class::N => 7,
-    }
-}
-
-/// Whether two classes are one.
-pub(crate) fn same_class(a: Class, b: Class) -> bool
-    ensures { result ≡ same_class a b }
-{
-    class_number(a) == class_number(b)
 }
 
 /// Whether a name is this one.
@@ -161,7 +137,7 @@ fn memory_end(segment: Loaded, rows: &[SectionRow]) -> u128
 pub(crate) fn second_segment_end(place: &Placement) -> u64
     ensures { result ≡ low_64 (second_segment_end place.now) }
 {
-    low_64(FIRST_ADDRESS.max(memory_end(Loaded::Second, place.sections.as_slice())))
+    low_64(u128::from(FIRST_ADDRESS).max(memory_end(Loaded::Second, place.sections.as_slice())))
 }
 
 /// The low bits of where the third segment ends.

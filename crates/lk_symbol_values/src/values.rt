@@ -12,7 +12,7 @@ ghost use Rattle.lk_model.specs.Views.{Input, Ref, Resolved};
 ghost use Rattle.lk_model.specs.Views.Through.{ByLocal, ByName};
 ghost use Rattle.lk_model.specs.declared.layouts.GotOwner.TheVariants as owner;
 ghost use Rattle.lk_model.specs.declared.layouts.Needs.{Needs};
-ghost use Rattle.lk_dyn_sizes.specs.Given.{IsGiven};
+ghost use Rattle.lk_resolve.specs.Given.{IsGiven};
 ghost use Rattle.lk_symbol_values.specs.InputSymbols.{symbol_in};
 ghost use Rattle.lk_symbol_values.specs.NameValues.{given_at};
 ghost use Rattle.lk_symbol_values.specs.Sections.{low_64};

@@ -2,3 +2,4 @@ pub mod BestsKept
 pub mod Entries
 pub mod SymbolsFound
 pub mod RowsStay
+pub mod NamesNumbered

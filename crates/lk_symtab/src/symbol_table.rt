@@ -6,7 +6,8 @@ ghost use Rattle.std.specs.List.{IsDistinct};
 ghost use Rattle.std.specs.Option.{option_map};
 ghost use Rattle.std.specs.Str.{bytes_eq};
 ghost use Rattle.lk_model.specs.declared.summaries.Contributions.{Contributions};
-ghost use Rattle.lk_symtab.specs.NameRows.{row_names, number_of, row_needed, row_referred, row_visibility, row_winner, symbols_in, with_made, with_row, AddGives, AddsAt};
+ghost use Rattle.lk_model.specs.References.{number_of_name};
+ghost use Rattle.lk_symtab.specs.NameRows.{all_symbols, row_names, number_of, row_needed, row_referred, row_visibility, row_winner, symbols_in, with_made, with_row, AddGives, AddsAt};
 
 use crate::rows::Row;
 use indexmap::IndexMap;
@@ -74,6 +75,14 @@ impl SymTab {
             Some(n) => Some(n as u32),
             None => None,
         }
+    }
+
+    /// The number of a name, or how many names there are where no symbol was added under it.
+    #[tactic(auto, using(crate::proofs::NamesNumbered::number_reported))]
+    pub fn number_of(&self, name: &Name) -> u32
+        ensures { result ≡ number_of_name (all_symbols self.now) name.now }
+    {
+        self.find(name).unwrap_or(self.len())
     }
 
     /// Adds a symbol of an input under a name, after all that were added before it: the name's number, which

@@ -1,8 +1,8 @@
 use Rattle.std.proofs.Common.{◌∙◌, subst, Ok, Err}
-use Rattle.lk_inputs.specs.Resolves.{found_in}
 use Rattle.lk_resolve.specs.Settling.{SettleGives}
 use Rattle.lk_driver.proofs.PassAnswers.{names_at_fault, resolution_goes_on, too_many_names}
 use Rattle.lk_driver.proofs.link_passes.settle.Goals as goal
+use Rattle.lk_resolve.specs.Given.{found_in}
 
 pub returns-in-Ok-clause-resolution : goal.returns-in-Ok-clause-resolution
 returns-in-Ok-clause-resolution c = λ xs given.

@@ -1,7 +1,7 @@
 use Rattle.std.proofs.Common.{refl, ap, ◌∙◌, Ok, Err}
 use Rattle.std.proofs.lemmas.Result.{err_from_is_err_and}
 use Rattle.lk_model.specs.Resolving.{resolve}
-use Rattle.lk_inputs.specs.Resolves.{found_in}
+use Rattle.lk_resolve.specs.Given.{found_in}
 use Rattle.lk_scan.proofs.LinkScanned.{scans_are_the_links}
 use Rattle.lk_scan_inputs.proofs.LinkScanned.{known_failed, one_name_each, scanned_reported, whole_answers}
 use Rattle.lk_scan_inputs.proofs.link_scanning.scan_inputs.Goals as goal

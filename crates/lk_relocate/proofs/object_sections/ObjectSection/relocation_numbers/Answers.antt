@@ -5,12 +5,12 @@ pub returns-clause-numbers : goal.returns-clause-numbers
 returns-clause-numbers c = λ r link object.
     let s = c.args.self.now in
     numbers_here s.resolution.now s.values.now s.placement.now r link s.input s.object.now s.section c.args.rela.now object
-    c.symbol_of-symbol.result c.symbol_of-symbol.ensures c.symbol_numbers-symbol_numbers.result c.symbol_numbers-symbol_numbers.ensures
+    c.r_symbol-symbol.result c.r_symbol-symbol.ensures c.symbol_numbers-symbol_numbers.result c.symbol_numbers-symbol_numbers.ensures
     s.start c.requires.begins c.relocation_at-relocation.result c.relocation_at-relocation.ensures c.numbers.result c.numbers.ensures.reported
 
 pub returns-clause-exact : goal.returns-clause-exact
 returns-clause-exact c = λ r link object.
     let s = c.args.self.now in
     value_here s.resolution.now s.values.now s.placement.now r link s.input s.object.now s.section c.args.rela.now object
-    c.symbol_of-symbol.result c.symbol_of-symbol.ensures c.symbol_numbers-symbol_numbers.result c.symbol_numbers-symbol_numbers.ensures
+    c.r_symbol-symbol.result c.r_symbol-symbol.ensures c.symbol_numbers-symbol_numbers.result c.symbol_numbers-symbol_numbers.ensures
     c.relocation_at-relocation.result c.numbers.result c.numbers.ensures.by_parts

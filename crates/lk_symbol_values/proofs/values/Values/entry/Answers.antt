@@ -1,7 +1,7 @@
 use Rattle.std.proofs.Common.{ap, sym, ◌∙◌, Some, None}
 use Rattle.lk_model.specs.Resolving.{resolve}
 use Rattle.lk_symtab.specs.NameRows.{number_of}
-use Rattle.lk_dyn_sizes.proofs.Seen.{seen}
+use Rattle.lk_resolve.proofs.Seen.{seen}
 use Rattle.lk_symbol_values.specs.SymbolNumbering.{ValueInputs}
 use Rattle.lk_symbol_values.specs.declared.name_values.SymbolValue.{SymbolValue}
 use Rattle.lk_symbol_values.proofs.ValuesGiven.{entry_reported}

@@ -1,6 +1,6 @@
 use Rattle.std.proofs.Common.{ap, ◌∙◌}
 use Rattle.lk_model.specs.Resolving.{resolve}
-use Rattle.lk_dyn_sizes.proofs.Seen.{seen}
+use Rattle.lk_resolve.proofs.Seen.{seen}
 use Rattle.lk_symbol_values.specs.SymbolNumbering.{ValueInputs}
 use Rattle.lk_symbol_values.proofs.ValuesGiven.{name_slot_reported}
 use Rattle.lk_symbol_values.proofs.values.Values.name_slot.Goals as goal
