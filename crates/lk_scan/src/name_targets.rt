@@ -5,7 +5,6 @@ ghost use Rattle.std.specs.Prelude.{◌≡◌, ◌==◌, option_map};
 ghost use Rattle.std.specs.Option.{option_copied};
 ghost use Rattle.lk_elf.specs.Numbers.{stt_tls};
 ghost use Rattle.lk_model.specs.Winners.{import_symbol, is_nothing, is_symbol_of, is_tls_winner, symbol_among, symbol_of_winner};
-ghost use Rattle.lk_symtab.specs.NameRows.{};
 ghost use Rattle.lk_scan.specs.Targets.{import_in, import_seen, name_target, target_with, unknown_target};
 
 use crate::targets::{Import, Target, Way};
