@@ -22,7 +22,7 @@ use Rattle.lk_model.specs.SymbolValues.{reference_fits}
 use Rattle.lk_model.specs.Tail.{tail_parts}
 use Rattle.lk_model.specs.Views.{Input, Ref, Resolved}
 use Rattle.lk_model.specs.declared.layouts.Placement.{Placement}
-use Rattle.lk_model.proofs.Limits.{below}
+use Rattle.lk_model.proofs.LimitsExceeded.{below}
 use Rattle.lk_image.specs.ImageAnswers.{ImageAnswers, IsRefusal, first_of, headers_limit, image_refusal, length_limit}
 use Rattle.lk_law_placement.specs.SoundInputs.{SoundInputs}
 use Rattle.lk_law_placement.proofs.PiecesLawful.{inputs_are_lawful}

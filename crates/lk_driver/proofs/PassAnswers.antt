@@ -17,8 +17,8 @@ use Rattle.lk_model.specs.Resolving.{resolve}
 use Rattle.lk_model.specs.Segments.{program_headers}
 use Rattle.lk_model.specs.Views.{Input, Resolved}
 use Rattle.lk_model.specs.declared.layouts.Placement.{Placement}
-use Rattle.lk_model.proofs.Limits.{above}
-use Rattle.lk_model.proofs.Limits.{below}
+use Rattle.lk_model.proofs.LimitsExceeded.{above}
+use Rattle.lk_model.proofs.LimitsExceeded.{below}
 use Rattle.lk_resolve.specs.Given.{found_in}
 use Rattle.lk_inputs.specs.AnswerLaws.{answer_unless, scanned_answer}
 use Rattle.lk_inputs.proofs.AnswersReported.{faults_reported_of, names_counted, some_faults}

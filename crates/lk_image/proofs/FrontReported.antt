@@ -13,7 +13,7 @@ use Rattle.lk_model.specs.declared.layouts.LayoutFault.{LayoutFault}
 use Rattle.lk_model.specs.declared.layouts.LayoutFault.TheVariants as layout
 use Rattle.lk_model.specs.declared.layouts.Placement.{Placement}
 use Rattle.lk_model.specs.declared.layouts.SectionRow.{SectionRow}
-use Rattle.lk_model.proofs.Limits.{above}
+use Rattle.lk_model.proofs.LimitsExceeded.{above}
 use Rattle.lk_headers.specs.Front.{FrontGives, front_bytes, front_header, up_to_seal}
 use Rattle.lk_headers.specs.TailRows.{rows_of_parts}
 use Rattle.lk_headers.proofs.FieldBytes.{low-long}

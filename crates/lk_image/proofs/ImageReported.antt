@@ -16,7 +16,7 @@ use Rattle.lk_model.specs.Views.{Input, Resolved}
 use Rattle.lk_model.specs.declared.layouts.Needs.{Needs}
 use Rattle.lk_model.specs.declared.layouts.Placement.{Placement}
 use Rattle.lk_model.specs.declared.summaries.InputSummary.{InputSummary}
-use Rattle.lk_model.proofs.Limits.{below}
+use Rattle.lk_model.proofs.LimitsExceeded.{below}
 use Rattle.lk_resolve.specs.Given.{IsGiven}
 use Rattle.lk_relocate.specs.Links.{IsLinked}
 use Rattle.lk_resolve.specs.Settling.{ResolutionValue}

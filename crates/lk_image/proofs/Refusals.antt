@@ -5,8 +5,8 @@ use Rattle.lk_report.specs.declared.statuses.LimitKind.TheVariants as limit
 use Rattle.lk_report.specs.declared.statuses.Status.{Status}
 use Rattle.lk_report.specs.declared.statuses.Status.TheVariants as status
 use Rattle.lk_image.specs.ImageAnswers.{IsRefusal, first_of, length_limit}
-use Rattle.lk_model.proofs.Limits.{above}
-use Rattle.lk_model.proofs.Limits.{below}
+use Rattle.lk_model.proofs.LimitsExceeded.{above}
+use Rattle.lk_model.proofs.LimitsExceeded.{below}
 
 -- a refusal of one is a refusal of another that is as due
 passes_on : (due other : Option Status) (s : Status) → (due ≡ Some s → other ≡ Some s) → IsRefusal due s → IsRefusal other s

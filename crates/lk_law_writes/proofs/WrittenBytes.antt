@@ -3,7 +3,7 @@ use Rattle.std.specs.Prelude.{◌≡◌, ℕ, zero, suc, Bool, true, false, List
 use Rattle.std.specs.List.{AllByRecursion, Contains, list_any}
 use Rattle.std.proofs.Common.{ap, arith, inl, inr, subst, sym, get_or, ◌∙◌}
 use Rattle.std.proofs.lemmas.Bool.{and_parts, cases_lt, leb-true, ltb-true, or_from, or_parts}
-use Rattle.std.proofs.lemmas.Bool.Decides.{nat_tests, leb_reports}
+use Rattle.std.proofs.lemmas.Bool.Decides.{nat_tests, leb_tells}
 use Rattle.std.proofs.lemmas.Grind.{common_steps}
 use Rattle.std.proofs.lemmas.List.{append_assoc, append-nil, drop-replicate, take-replicate, drop-drop, drop_at, take_at, take-take, take-append-drop, length-append, length-take-le, get_or-append_right, get_or-take, get_or-drop, get_or-replicate, get_or_past, length-replicate}
 use Rattle.std.proofs.lemmas.List.Elements.{All-contains, All-from_recursion, recursion_from_All, All-contains_itself}
@@ -39,7 +39,7 @@ byte_behind : (bytes new : List ℕ) (at k : ℕ) → at + length new ≤ length
 byte_behind bytes new at k fits more = grind (arith, common_steps)
 
 past_end : (s : Stretch) (k : ℕ) → s.at ≤ k → has_byte k s ≡ false → s.at + length s.bytes ≤ k
-past_end s k from none = grind (arith, leb_reports)
+past_end s k from none = grind (arith, leb_tells)
 
 byte_stays : (bytes : List ℕ) (s : Stretch) (k : ℕ) → EndsWithin (length bytes) s → has_byte k s ≡ false → slice_index (patch bytes s.at s.bytes) k ≡ slice_index bytes k
 byte_stays bytes s k fits none =

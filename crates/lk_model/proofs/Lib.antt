@@ -19,5 +19,5 @@ pub mod RowsReported
 pub mod TablesThere
 pub mod HashTables
 pub mod DynamicLengths
-pub mod Limits
+pub mod LimitsExceeded
 pub mod AddedOnce

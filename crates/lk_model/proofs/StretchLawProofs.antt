@@ -7,7 +7,7 @@ use Rattle.std.proofs.Math.Seq.{drop-append_seam, take-append_seam, drop-append-
 use Rattle.std.proofs.lemmas.List.{take-append-le, drop-append-le, length-replicate, drop-take, take-take, get_or_append_left, get_or-append_right}
 use Rattle.std.proofs.lemmas.Slice.{drop-append-drop}
 use Rattle.std.proofs.lemmas.Bool.{leb-true}
-use Rattle.std.proofs.lemmas.Bool.Decides.{leb_reports}
+use Rattle.std.proofs.lemmas.Bool.Decides.{leb_tells}
 use Rattle.std.proofs.lemmas.Grind.{common_steps}
 use Rattle.std.specs.Cmp.{first_so, second_so}
 use Rattle.lk_model.specs.LinkedBytes.{patch}
@@ -91,7 +91,7 @@ or-second false b h = h
 
 -- a place from a stretch's start on that the stretch does not have is past its end
 past-stretch : (s : Stretch) (k : ℕ) → s.at ≤ k → has_byte k s ≡ false → s.at + length s.bytes ≤ k
-past-stretch s k from none = grind (arith, leb_reports)
+past-stretch s k from none = grind (arith, leb_tells)
 
 -- a place in the zeros before a stretch
 in-gap : (pre : List ℕ) (place at : ℕ) (rest : List ℕ) (k : ℕ) → length pre ≡ place → place ≤ at → place ≤ k → k < at
@@ -103,7 +103,7 @@ in-gap pre place at rest k e h from below =
 
 -- a number is at another one or past it, or before it
 either-side : {P : Type 0} (a k : ℕ) → (a ≤ k → P) → (k < a → P) → P
-either-side {P} a k f g = elim (leb_reports a k) as (λ _. P) [ inl t ↦ f t.1 | inr t ↦ g t.1 ]
+either-side {P} a k f g = elim (leb_tells a k) as (λ _. P) [ inl t ↦ f t.1 | inr t ↦ g t.1 ]
 
 -- a place that no stretch has holds 0
 zero-from : (pre : List ℕ) (place : ℕ) (ss : List Stretch) → length pre ≡ place → rises_from place ss ≡ true
@@ -171,7 +171,7 @@ before image bytes at from size fits close =
 -- a stretch apart from a patch and not behind it ends before it
 apart-before : (at : ℕ) (bytes : List ℕ) (t : Stretch) → is_apart (record { at = at; bytes = bytes }) t ≡ true
     → t.at < at + length bytes → t.at + length t.bytes ≤ at
-apart-before at bytes t apart close = grind (arith, leb_reports)
+apart-before at bytes t apart close = grind (arith, leb_tells)
 
 -- a patch of the bytes of one stretch keeps every stretch that is apart from it
 pub patch-keeps : (image bytes : List ℕ) (at : ℕ) (t : Stretch) → at + length bytes ≤ length image

@@ -99,3 +99,4 @@ pub mod SharedChecks
 pub mod Loads
 pub mod Spans
 pub mod InputNames
+pub mod LayoutStatuses

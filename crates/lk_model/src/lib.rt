@@ -18,6 +18,7 @@ pub mod commands;
 pub mod images;
 pub mod input_names;
 pub mod laws;
+mod layout_statuses;
 pub mod layouts;
 pub mod limits;
 pub mod records;

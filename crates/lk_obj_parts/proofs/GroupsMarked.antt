@@ -6,7 +6,7 @@ use Rattle.std.specs.List.{enumerate_from, list_all, list_any, range_with_len}
 use Rattle.std.specs.Option.{option_or}
 use Rattle.std.proofs.Common.{ap, ◌∙◌, sym, arith, add-one, append_assoc, append-nil, drop-cons, ext_get_or, get_or, get_or-set_other, get_or-set_same, length-set}
 use Rattle.std.proofs.lemmas.Bool.{and_parts, true≢false}
-use Rattle.std.proofs.lemmas.Bool.Decides.{eqb_reports}
+use Rattle.std.proofs.lemmas.Bool.Decides.{eqb_tells}
 use Rattle.std.proofs.lemmas.List.{drop_all}
 use Rattle.std.proofs.lemmas.List.Folds.{list_any-append}
 use Rattle.std.proofs.lemmas.List.FromFn.{get_or-map-range_with_len, length-map-range_with_len}
@@ -82,7 +82,7 @@ mark_more count claimed m =
         ∙ sym (mark_got count (claimed ++ m ∷ []) i l)
 
     at : (i : ℕ) → i < count → get_or (with_mark (marks_of count claimed) m) i false ≡ get_or (marks_of count (claimed ++ m ∷ [])) i false
-    at i l = ⊎_elim (λ p. same i l p.0 p.1) (λ p. apart i l p.0 p.1) (eqb_reports i m)
+    at i l = ⊎_elim (λ p. same i l p.0 p.1) (λ p. apart i l p.0 p.1) (eqb_tells i m)
 
 pub fold_more : (count : ℕ) (claimed ms : List ℕ) → fold with_mark (marks_of count claimed) ms ≡ marks_of count (claimed ++ ms)
 fold_more count claimed [] = ap (marks_of count) (sym (append-nil claimed))

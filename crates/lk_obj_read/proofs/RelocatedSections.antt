@@ -3,7 +3,7 @@ use Rattle.std.specs.Prelude.{◌≡◌, refl, ℕ, zero, suc, ◌+◌, ◌*◌,
 use mathlib.Core.Logic.{⊎_elim}
 use Rattle.std.specs.List.{enumerate_from, list_any}
 use Rattle.std.proofs.Common.{ap, ◌∙◌, sym, arith, add-one, drop-cons, get_or, get_or-set_other, get_or-set_same, length-set}
-use Rattle.std.proofs.lemmas.Bool.Decides.{eqb_reports}
+use Rattle.std.proofs.lemmas.Bool.Decides.{eqb_tells}
 use Rattle.std.proofs.lemmas.List.{drop_all}
 use Rattle.std.proofs.lemmas.List.FromFn.{length-map-range_with_len}
 use Rattle.std.proofs.lemmas.Option.{slice_get-get_or}
@@ -43,7 +43,7 @@ or-swap false true = refl
 or-swap false false = refl
 
 set_reported : (marks : List Bool) (m n : ℕ) → n < length marks → get_or (with_mark marks m) n false ≡ (get_or marks n false || nat_eq n m)
-set_reported marks m n l = ⊎_elim (λ p. same p.0 p.1) (λ p. apart p.0 p.1) (eqb_reports n m)
+set_reported marks m n l = ⊎_elim (λ p. same p.0 p.1) (λ p. apart p.0 p.1) (eqb_tells n m)
   where
     same : nat_eq n m ≡ true → n ≡ m → get_or (with_mark marks m) n false ≡ (get_or marks n false || nat_eq n m)
     same e is =
@@ -93,16 +93,16 @@ abbrev is_on : ℕ → ℕ × Shdr → Bool
 is_on n row = row.1.sh_type == sht_rela && row.1.sh_info == n
 
 eq_sym : (a b : ℕ) → nat_eq a b ≡ nat_eq b a
-eq_sym a b = ⊎_elim (λ p. same p.0 p.1) (λ p. apart p.0 p.1) (eqb_reports a b)
+eq_sym a b = ⊎_elim (λ p. same p.0 p.1) (λ p. apart p.0 p.1) (eqb_tells a b)
   where
     same : nat_eq a b ≡ true → a ≡ b → nat_eq a b ≡ nat_eq b a
     same e is = ap (λ k. nat_eq k b) is ∙ ap (λ k. nat_eq b k) (sym is)
 
     apart : nat_eq a b ≡ false → a ≢ b → nat_eq a b ≡ nat_eq b a
-    apart e differ = e ∙ sym (⊎_elim (λ p. absurd (differ (sym p.1))) (λ p. p.0) (eqb_reports b a))
+    apart e differ = e ∙ sym (⊎_elim (λ p. absurd (differ (sym p.1))) (λ p. p.0) (eqb_tells b a))
 
 not_zero : (n : ℕ) → nat_eq (suc n) 0 ≡ false
-not_zero n = ⊎_elim (λ p. absurd (omega (arith, p.1))) (λ p. p.0) (eqb_reports (suc n) 0)
+not_zero n = ⊎_elim (λ p. absurd (omega (arith, p.1))) (λ p. p.0) (eqb_tells (suc n) 0)
 
 and_false : (a : Bool) → (a && false) ≡ false
 and_false true = refl

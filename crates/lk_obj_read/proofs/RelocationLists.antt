@@ -3,7 +3,7 @@ use Rattle.std.specs.Prelude.{◌≡◌, refl, ℕ, zero, suc, ◌+◌, ◌==◌
 use mathlib.Core.Logic.{⊎_elim}
 use Rattle.std.specs.List.{enumerate_from}
 use Rattle.std.proofs.Common.{sym, ◌∙◌, ap, get_or, drop-cons, add-one, append_assoc, get_or-set_other}
-use Rattle.std.proofs.lemmas.Bool.Decides.{eqb_reports}
+use Rattle.std.proofs.lemmas.Bool.Decides.{eqb_tells}
 use Rattle.std.proofs.lemmas.Grind.{get_or-set_at}
 use Rattle.std.proofs.lemmas.List.{drop_all, append-nil, get_or_default}
 use Rattle.lk_elf.specs.Numbers.{sht_rela}
@@ -41,7 +41,7 @@ pub put_at :
     (bytes : List ℕ) (lists : List (List Rela)) (section : Shdr) (d new entries : List Rela) (t : ℕ)
     → section.sh_type ≡ sht_rela → section.sh_info < length lists → entries ≡ relas_of bytes section → new ≡ slice_index_or lists section.sh_info d ++ entries
     → slice_index_or (slice_set lists section.sh_info new) t [] ≡ with_relas bytes t (slice_index_or lists t []) section
-put_at bytes lists section d new entries t is within reported e = ⊎_elim (λ p. here p.0 p.1) (λ p. away p.0 p.1) (eqb_reports section.sh_info t)
+put_at bytes lists section d new entries t is within reported e = ⊎_elim (λ p. here p.0 p.1) (λ p. away p.0 p.1) (eqb_tells section.sh_info t)
   where
     tested : is_on t section ≡ nat_eq section.sh_info t
     tested = ap (λ k. k == sht_rela && section.sh_info == t) is

@@ -5,7 +5,7 @@ use mathlib.Core.Logic.{⊎_elim}
 use Rattle.std.specs.List.{enumerate_from}
 use Rattle.std.proofs.Common.{ap, arith, get_or, length-drop, subst, sym, ◌∙◌}
 use Rattle.std.proofs.lemmas.Bool.{eqb-true}
-use Rattle.std.proofs.lemmas.Bool.Decides.{eqb_reports, nat_tests}
+use Rattle.std.proofs.lemmas.Bool.Decides.{eqb_tells, nat_tests}
 use Rattle.std.proofs.lemmas.Grind.{get_or_after_one}
 use Rattle.std.proofs.lemmas.List.{append-nil, length-take}
 use Rattle.std.proofs.lemmas.List.Elements.{All-append, All-cons, All-head, All-nil, All-tail, All-weaker, filter_passes}
@@ -180,7 +180,7 @@ no_key (Some name) code flags e h = never (subst (λ c. is_some (key_of name c f
 not_null : (elf : Elf) (t : ℕ) (target : Shdr) → is_piece_in elf t ≡ true → section_at elf t ≡ Some target → (target.sh_type == sht_null) ≡ false
 not_null elf t target piece at =
     let key : is_some (key_in elf t target) ≡ true = ap (is_some_with (λ (header : Shdr). is_some (key_in elf t header))) (sym at) ∙ piece in
-    ⊎_elim (λ p. absurd (no_key (section_name elf t) target.sh_type target.sh_flags p.1 key)) (λ p. p.0) (eqb_reports target.sh_type sht_null)
+    ⊎_elim (λ p. absurd (no_key (section_name elf t) target.sh_type target.sh_flags p.1 key)) (λ p. p.0) (eqb_tells target.sh_type sht_null)
 
 abbrev first_test : List (Bool × InputFault) → Bool
 first_test [] = false

@@ -17,8 +17,8 @@ use Rattle.lk_model.specs.Resolving.{resolve}
 use Rattle.lk_model.specs.ScanFaults.{scan_faults}
 use Rattle.lk_model.specs.Views.{Input, Resolved}
 use Rattle.lk_model.specs.InputNames.{input_summary}
-use Rattle.lk_model.proofs.Limits.{above}
-use Rattle.lk_model.proofs.Limits.{below}
+use Rattle.lk_model.proofs.LimitsExceeded.{above}
+use Rattle.lk_model.proofs.LimitsExceeded.{below}
 use Rattle.lk_resolve.specs.Given.{found_in}
 use Rattle.lk_resolve.specs.Given.{IsGiven}
 use Rattle.lk_layout.specs.Layouts.{LayoutGives, layout_limit}

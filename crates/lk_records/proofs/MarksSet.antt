@@ -1,6 +1,6 @@
 -- Marks that are set one after another tell which inputs are added.
 use Rattle.std.proofs.Common.{◌≡◌, ◌≢◌, refl, sym, ap, ◌∙◌, ⊎_elim, arith, ℕ, zero, suc, ◌<◌, ◌≤◌, nat_eq, Bool, true, false, ◌||◌, List, [], ◌∷◌, drop, fold, get_or, get_or-set_other, get_or-set_same, length, length-set, replicate}
-use Rattle.std.proofs.lemmas.Bool.Decides.{eqb_reports}
+use Rattle.std.proofs.lemmas.Bool.Decides.{eqb_tells}
 use Rattle.std.proofs.lemmas.List.{drop_all}
 use Rattle.std.proofs.lemmas.List.FromFn.{fill_by_all}
 use Rattle.lk_records.specs.AddedMarks.{is_added, marks_from, with_mark}
@@ -18,7 +18,7 @@ or_false true = refl
 or_false false = refl
 
 set_reported : (marks : List Bool) (m n : ℕ) → n < length marks → get_or (with_mark marks m) n false ≡ (get_or marks n false || nat_eq m n)
-set_reported marks m n within = ⊎_elim (λ p. same p.0 p.1) (λ p. apart p.0 p.1) (eqb_reports m n)
+set_reported marks m n within = ⊎_elim (λ p. same p.0 p.1) (λ p. apart p.0 p.1) (eqb_tells m n)
   where
     same : nat_eq m n ≡ true → m ≡ n → get_or (with_mark marks m) n false ≡ (get_or marks n false || nat_eq m n)
     same e is =

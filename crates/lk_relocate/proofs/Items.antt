@@ -1,6 +1,6 @@
 -- Items of lists by their numbers, where lists grow and are written to.
 use Rattle.std.proofs.Common.{◌≡◌, ◌≢◌, refl, sym, ap, ◌∙◌, arith, ℕ, zero, suc, ◌-◌, ◌<◌, ◌≤◌, nat_eq, Bool, true, false, cond, List, [], ◌∷◌, ◌++◌, get_or, get_or-set_other, get_or-set_same, length, replicate, take, slice_get, unwrap_or}
-use Rattle.std.proofs.lemmas.Bool.Decides.{eqb_reports}
+use Rattle.std.proofs.lemmas.Bool.Decides.{eqb_tells}
 use Rattle.std.proofs.lemmas.Option.{unwrap_or-slice_get}
 use Rattle.std.specs.Prelude.{slice_set}
 use mathlib.Core.Logic.{⊎_elim}
@@ -25,7 +25,7 @@ pub grown : {A : Type 0} (d : A) (xs : List A) (m n k : ℕ) → length xs ≤ m
 grown d xs m n k le = ap (λ ys. get_or (ys ++ replicate n d) k d) (whole m xs le) ∙ longer d xs n k
 
 set_at : {A : Type 0} (d : A) (xs : List A) (n : ℕ) (x : A) (k : ℕ) → n < length xs → get_or (slice_set xs n x) k d ≡ cond (nat_eq k n) x (get_or xs k d)
-set_at {A} d xs n x k less = ⊎_elim (λ p. same p.0 p.1) (λ p. apart p.0 p.1) (eqb_reports k n)
+set_at {A} d xs n x k less = ⊎_elim (λ p. same p.0 p.1) (λ p. apart p.0 p.1) (eqb_tells k n)
   where
     same : nat_eq k n ≡ true → k ≡ n → get_or (slice_set xs n x) k d ≡ cond (nat_eq k n) x (get_or xs k d)
     same e is =

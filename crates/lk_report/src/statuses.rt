@@ -2,6 +2,7 @@
 
 use crate::causes::Cause;
 use crate::faults::{FaultList, UsageFault};
+use crate::memory::NoMemory;
 use crate::names::Name;
 
 /// How a link that succeeded was made.
@@ -34,6 +35,17 @@ pub enum Status {
     NotUpdated(Cause),
     /// A part of the linker that later work adds (8).
     NotYet(Waiting),
+}
+
+impl From<NoMemory> for Status {
+    ghost use Rattle.std.specs.Prelude.{◌≡◌};
+    ghost use Rattle.lk_report.specs.declared.statuses.Status.TheVariants as status;
+
+    ghost from_gives = { λ _ answer. answer ≡ status.NoMemory };
+
+    fn from(_none: NoMemory) -> Status {
+        Status::NoMemory
+    }
 }
 
 /// What is not built yet.

@@ -6,7 +6,7 @@ use Rattle.lk_report.proofs.numbers.put_digits.Goals as goal
 pub loop-start-init : goal.loop-start-init
 loop-start-init c = (
   omega arith,
-  c.reported-room,
+  c.told-room,
   ap (digits_onto 64 c.args.base false c.args.n) (drop_of_length-le c.args.room.now {i = 64} (omega arith)) ∙ onto_nothing _ _,
 )
 
