@@ -17,7 +17,7 @@ abbrev pub signatures_of : List (List ℕ × ℕ) → List (List ℕ)
 signatures_of claims = map (λ (c : List ℕ × ℕ). c.0) claims
 
 -- what a claim answers, and the claims after it: the first claim of a signature is recorded, and after it
--- each other is reported the holder; memory is wanted only for a signature that is new
+-- any other claim returns the holder; only a new signature needs memory
 abbrev pub ClaimGives : List (List ℕ × ℕ) → List ℕ → ℕ → Result Claim NoMemory → List (List ℕ × ℕ) → Type 0
 ClaimGives old signature input (Ok First) new = (holder_of old signature ≡ None) × (new ≡ old ++ (signature, input) ∷ [])
 ClaimGives old signature input (Ok (Dropped holder)) new = (holder_of old signature ≡ Some holder) × (new ≡ old)

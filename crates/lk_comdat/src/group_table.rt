@@ -37,7 +37,7 @@ impl Groups {
         }
     }
 
-    /// Claims a signature for an input: the first claim of it is recorded, and a later one is reported who
+    /// Claims a signature for an input: the first claim of it is recorded, and a later one returns the input that
     /// has it.
     ///
     /// # Errors

@@ -16,7 +16,7 @@ put_in old word = put_word old.mark old.open_words old.items word
 abbrev pub ended_in : Listed → Listed
 ended_in old = record { mark = old.mark; open_words = None; items = old.items ++ ended_group old.open_words }
 
--- the inputs after a word that is alone
+-- the inputs after a word that is an option by itself
 abbrev pub flagged_in : Listed → Flag → Listed
 flagged_in old (Marked mark) = record { mark = mark; open_words = old.open_words; items = old.items }
 flagged_in old StartLib = record { mark = old.mark; open_words = Some []; items = old.items }

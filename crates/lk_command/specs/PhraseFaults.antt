@@ -6,7 +6,7 @@ use Rattle.lk_report.specs.declared.faults.UsageFault.TheVariants as fault
 use Rattle.lk_model.specs.Checks.{first_fault, is_some_with}
 use Rattle.lk_model.specs.Grammar.{Phrase, Wrong, Named, Flagged, Given, Flag, StartLib, EndLib, Valued, holds_zero, is_bad_number, is_missing, is_other_machine, is_output, names_output, open_after, open_checks}
 
--- the checks of a word that is alone, where a lib group may be open
+-- the checks of a word that is an option by itself, where a lib group may be open
 abbrev pub flag_checks_in : Option ℕ → ℕ → Flag → List (Bool × UsageFault)
 flag_checks_in open_lib number StartLib = (is_some open_lib, fault.NestedLib number) ∷ []
 flag_checks_in open_lib number EndLib = (is_none open_lib, fault.NoLibOpen number) ∷ []

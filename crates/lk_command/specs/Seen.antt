@@ -26,7 +26,7 @@ valued_seen valued.Base = grammar.Base
 valued_seen valued.Patch = grammar.Patch
 valued_seen valued.ThreadCount = grammar.ThreadCount
 
--- a word that is alone
+-- a word that is an option by itself
 abbrev pub flag_seen : Flag → grammar.Flag
 flag_seen flag.ExportDynamic = grammar.ExportDynamic
 flag_seen (flag.InMode mode) = grammar.InMode mode

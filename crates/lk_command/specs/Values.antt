@@ -58,7 +58,7 @@ given_after old Patch value = record old { patch = unwrap_or (number_read value)
 given_after old ThreadCount value = record old { workers = unwrap_or (number_read value) old.workers }
 given_after old other value = old
 
--- the values after a word that is alone
+-- the values after a word that is an option by itself
 abbrev pub flagged_after : GivenValues → Flag → GivenValues
 flagged_after old ExportDynamic = record old { export_dynamic = true }
 flagged_after old (InMode mode) = record old { mode = mode }

@@ -61,7 +61,7 @@ fn given_fault(named: bool, given: Given<'_>) -> Option<UsageFault>
     None
 }
 
-/// The fault of a word that is alone, where a lib group may be open.
+/// The fault of a word that is an option by itself, where a lib group may be open.
 fn flag_fault(group: Option<u32>, number: u32, flag: Flag) -> Option<UsageFault>
     ensures { result ≡ first_fault (flag_checks_in group number (flag_seen flag)) }
 {

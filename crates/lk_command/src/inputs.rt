@@ -60,7 +60,7 @@ fn end_group(listing: &mut Listing) -> Result<(), NoMemory>
     }
 }
 
-/// The inputs after a word that is alone.
+/// The inputs after a word that is an option by itself.
 fn put_flag(alloc: Global, listing: &mut Listing, flag: Flag) -> Result<(), NoMemory>
     ensures { OnOk result (listing_seen listing.new ≡ flagged_in (listing_seen listing.old) (flag_seen flag)) }
 {

@@ -56,7 +56,7 @@ fn after_given<'a>(mut values: Values<'a>, option: Valued, value: &'a [u8]) -> V
     values
 }
 
-/// The values after a word that is alone.
+/// The values after a word that is an option by itself.
 fn after_flag<'a>(mut values: Values<'a>, flag: Flag) -> Values<'a>
     ensures { values_seen result ≡ flagged_after (values_seen values.entry) (flag_seen flag) }
 {

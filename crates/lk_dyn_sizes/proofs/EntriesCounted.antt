@@ -10,7 +10,7 @@ use Rattle.lk_resolve.specs.RowFaults.{is_some_in_object}
 use Rattle.lk_symtab.specs.NameRows.{NameRow, row_winner}
 use Rattle.lk_dyn_sizes.specs.EntryCounts.{count_where}
 
--- what the table reports of a row that is there
+-- what the table has of a row that is there
 pub in_object_reported : (o : Option NameRow) (w : Winner) → option_map row_winner o ≡ Some w → is_in_object w ≡ is_some_in_object o
 in_object_reported None w e = absurd (cc)
 in_object_reported (Some row) w e =

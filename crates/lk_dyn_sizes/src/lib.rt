@@ -1,6 +1,6 @@
 //! How many bytes the tables of a link have, before anything is placed.
 //!
-//! What resolution resolved comes in (`Resolution`), with the summaries of the inputs, the needs of their
+//! What resolution found comes in (`Resolution`), with the summaries of the inputs, the needs of their
 //! references and the options, and the output sections that kept pieces go to. Out comes `table_sizes`: each
 //! table that the link makes with its size, two in a static link, ten in a dynamic one. What these tables hold
 //! is reported one by one besides, for whoever writes their bytes: `dynamic_names`, `copied_names`, `slot_fills`,

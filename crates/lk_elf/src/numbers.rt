@@ -54,7 +54,7 @@ pub const SHT_RELA: u32 = 4;
 /// The hash table of the dynamic symbols (gABI "Sections").
 pub const SHT_HASH: u32 = 5;
 
-/// What the dynamic linker is reported (gABI "Sections").
+/// The information for dynamic linking (gABI "Sections").
 pub const SHT_DYNAMIC: u32 = 6;
 
 /// Notes (gABI "Sections").
@@ -126,7 +126,7 @@ pub const STB_GLOBAL: u8 = 1;
 /// Known in all files, and gives way to a global symbol (gABI "Symbol Table").
 pub const STB_WEAK: u8 = 2;
 
-/// No type is reported (gABI "Symbol Table").
+/// The type is not given (gABI "Symbol Table").
 pub const STT_NOTYPE: u8 = 0;
 
 /// A data object (gABI "Symbol Table").
@@ -171,13 +171,13 @@ pub const SHN_ABS: u16 = 0xfff1;
 /// A common symbol, whose value is its alignment (gABI "Sections").
 pub const SHN_COMMON: u16 = 0xfff2;
 
-/// The section number is elsewhere (gABI "Sections").
+/// The section number is in a section of type SHT_SYMTAB_SHNDX (gABI "Sections").
 pub const SHN_XINDEX: u16 = 0xffff;
 
 /// A part of the file that is loaded (gABI "Program Header").
 pub const PT_LOAD: u32 = 1;
 
-/// What the dynamic linker is reported (gABI "Program Header").
+/// The information for dynamic linking (gABI "Program Header").
 pub const PT_DYNAMIC: u32 = 2;
 
 /// The path of the dynamic linker (gABI "Program Header").

@@ -69,7 +69,7 @@ distinct_filtered same p [] once = tt
 distinct_filtered same p (x ∷ xs) once =
     distinct_where same (p x) x (filter p xs) (all_filter (λ y. same x y ≡ false) p xs once.0) (distinct_filtered same p xs once.1)
 
--- a list that a test reports to have no repeats
+-- a list in which a test finds no repeats
 abbrev pub are_distinct : {A : Type 0} → (A → A → Bool) → List A → Bool
 are_distinct same [] = true
 are_distinct same (x ∷ xs) = cond (list_any (same x) xs) false (are_distinct same xs)

@@ -67,7 +67,7 @@ nothing_patched bytes [] at none =
     ∙ (ap (λ n. take at bytes ++ drop n bytes) same ∙ take-append-drop at bytes)
 nothing_patched bytes (b ∷ new) at none = absurd (omega (arith, none))
 
--- a stretch without bytes is anywhere
+-- a stretch without bytes may be anywhere
 nothing_is_at : (image : List ℕ) (s : Stretch) → length s.bytes ≡ 0 → IsAt image s
 nothing_is_at image s none = grind (arith, common_steps)
 

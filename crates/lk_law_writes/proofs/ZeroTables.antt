@@ -35,7 +35,7 @@ zeros_joined xs ys one other =
 
 -- ---- what is needed
 
--- a list of which it is reported is empty
+-- a list that has no item is empty
 empty_is : {X : Type 0} (xs : List X) → is_empty xs ≡ true → xs ≡ []
 empty_is [] empty = refl
 empty_is (x ∷ xs) empty = absurd (both_ways false refl empty)

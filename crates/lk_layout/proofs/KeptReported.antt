@@ -1,4 +1,4 @@
--- The kept pieces that what is resolved reports are those that lk_model resolves.
+-- The kept pieces of a resolution are those that lk_model resolves.
 use Rattle.std.specs.Prelude.{◌≡◌, refl, ℕ, List, ◌++◌, Result}
 use Rattle.std.proofs.Common.{sym, ap, subst, ◌∙◌}
 use Rattle.lk_report.specs.declared.causes.OptionRecord.{OptionRecord}

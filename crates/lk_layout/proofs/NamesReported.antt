@@ -1,4 +1,4 @@
--- The pieces of names are those of lk_model, whichever list of the copied names reports them.
+-- The pieces of names are those of lk_model, whichever list has the copied names.
 use Rattle.std.specs.Prelude.{◌≡◌, refl, ℕ, zero, suc, ◌+◌, ◌<◌, cond, nat_eq, List, [], ◌∷◌, ◌++◌, drop, filter_map, fold, length, map, zip, Option, Some, None, option_map, slice_get}
 use Rattle.std.specs.List.{cons_option, enumerate_from}
 use Rattle.std.specs.Cmp.{nat_eq_equiv}

@@ -1,4 +1,4 @@
--- The offsets that a cursor reports are those behind the earlier pieces.
+-- The offsets that a cursor gives are those behind the earlier pieces.
 use Rattle.std.specs.Prelude.{◌≡◌, refl, ℕ, Bool, true, false, if◌then◌else◌, List, [], ◌∷◌, ◌++◌, fold}
 use Rattle.std.proofs.Common.{sym, ap, ◌∙◌}
 use Rattle.std.proofs.lemmas.List.Sums.{fold-append}

@@ -113,7 +113,7 @@ own_row row_place done rest p all whole =
 
 -- ---- all pieces in turn
 
--- how many pieces of a section are already
+-- how many pieces of a section came before
 abbrev count_of : List KeptPiece → SectionKey → ℕ
 count_of done key = length (pieces_in key done)
 

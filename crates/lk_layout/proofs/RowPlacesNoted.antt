@@ -1,4 +1,4 @@
--- The homes of keys, noted row by row.
+-- The first row of each key, noted row by row.
 use Rattle.std.specs.Prelude.{◌≡◌, refl, ℕ, ◌+◌, ◌<◌, Bool, true, false, cond, List, ◌∷◌, drop, find, length, Option, Some, None, option_map}
 use Rattle.std.specs.List.{enumerate_from}
 use Rattle.std.specs.Option.{option_or}

@@ -1,4 +1,4 @@
--- The kept sections that what is resolved reports are lk_model's.
+-- The kept sections of a resolution are lk_model's.
 use Rattle.std.specs.Prelude.{◌≡◌, refl, ℕ, ◌==◌, ◌&&◌, ◌||◌, not, Bool, true, false, cond, List, [], ◌∷◌, ◌++◌, filter, flat_map, map, Some, slice_get}
 use Rattle.std.specs.List.{AllByRecursion, list_any}
 use Rattle.std.proofs.Common.{sym, ap, ◌∙◌, arith}

@@ -1,4 +1,4 @@
--- This project's own: the kept pieces, as what is resolved of a link reports them.
+-- This project's own: the kept pieces of a resolution.
 use Rattle.std.specs.Prelude.{ℕ, ◌+◌, List, [], ◌∷◌, ◌++◌, map, filter, flat_map, Option, Some, None, slice_get}
 use Rattle.std.specs.List.{cons_option}
 use Rattle.lk_model.specs.declared.summaries.Contribution.{Contribution}

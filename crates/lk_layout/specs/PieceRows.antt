@@ -41,7 +41,7 @@ abbrev pub row_in : List Group → List Walked → List (Option RowPlace) → �
 row_in groups walks row_places number n =
     option_and_then (λ (g : Group). option_and_then (λ (w : Walked). option_and_then (λ (h : Option RowPlace). row_at h w g.1 n) (slice_get row_places number)) (slice_get walks number)) (slice_get groups number)
 
--- the rows of pieces in the order of all, where `seen` reports how many pieces of each section are already
+-- the rows of pieces in the order of all, where `seen` counts the pieces of each section so far
 abbrev pub rows_by : (ℕ → ℕ → Option PieceRow) → List ℕ → List ℕ → List PieceRow
 rows_by row seen [] = []
 rows_by row seen (number ∷ order) = cons_option (row number (slice_index_or seen number 0)) (rows_by row (slice_set seen number (slice_index_or seen number 0 + 1)) order)

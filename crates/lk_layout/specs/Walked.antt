@@ -8,7 +8,7 @@ use Rattle.lk_model.specs.Views.{KeptPiece}
 use Rattle.lk_layout.specs.Grouping.{Group}
 
 -- the offsets of a section's pieces in their order, where they end, the section's alignment, and whether its
--- pieces are anywhere in it
+-- pieces may be anywhere in it
 pub record Walked : Type 0 where
   pub offsets : List ℕ
   pub end : ℕ

@@ -76,7 +76,7 @@ fn laid_out(
 /// first limit that it exceeds: more than 60,000 output sections, then more than 2 GiB of memory from the load
 /// base to the greatest end of a loaded room. Both are reported with the whole number.
 ///
-/// `resolution` is what is resolved of the inputs, `inputs` has the summary of each by its number, and `needs`
+/// `resolution` is what the inputs decide, `inputs` has the summary of each by its number, and `needs`
 /// what the references of kept pieces need. The options tell the room for growth, in percent. Addresses,
 /// offsets, sizes and alignments are in bytes.
 ///

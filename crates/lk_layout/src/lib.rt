@@ -1,6 +1,6 @@
 //! Where a link made anew puts everything: its output sections, the pieces that it keeps, its slots.
 //!
-//! What resolution resolved comes in (`Resolution`), with the summaries of the inputs, the needs of their
+//! What resolution found comes in (`Resolution`), with the summaries of the inputs, the needs of their
 //! references and the options. Out comes, by `full_layout`, a `Placement`, or the first limit that it exceeds.
 //! The contract cites lk_model's `full_place` of what is resolved of the inputs of a command, wherever the
 //! arguments are given by the same inputs (`LayoutGives` of specs/Layouts.antt over lk_dyn_sizes' `IsGiven`).

@@ -88,7 +88,7 @@ fn row_in(
     Ok(row)
 }
 
-/// How many pieces of the group with a number are already; then one more does.
+/// How many pieces of the group with a number came before; then one more did.
 fn take_next(seen: &mut Vec<usize>, number: usize) -> Result<usize, NoMemory>
     ensures taken { IfOk result (λ n. n ≡ slice_index_or seen.old.items number 0) }
     ensures counted { OnOk result (seen.new.items ≡ slice_set seen.old.items number (slice_index_or seen.old.items number 0 + 1)) }
@@ -114,7 +114,7 @@ fn push_some(rows: &mut PieceRowList, row: Option<PieceRow>) -> Result<(), NoMem
     Ok(())
 }
 
-/// No piece of each of so many groups is yet.
+/// No piece of any of so many groups came yet.
 fn none_seen(alloc: Global, groups: usize) -> Result<Vec<usize>, NoMemory>
     ensures { IfOk result (λ seen. seen.items ≡ replicate groups 0) }
 {

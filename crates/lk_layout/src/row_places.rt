@@ -22,7 +22,7 @@ pub(crate) struct RowPlace {
     pub(crate) room: u64,
 }
 
-/// The homes of sections by their keys.
+/// The places of sections by their keys.
 type RowPlaces<'r> = IndexMap<KeyRef<'r>, RowPlace>;
 
 /// Notes the row of a key, where none is noted yet.
@@ -42,7 +42,7 @@ fn note_row_place<'r>(
     Ok(())
 }
 
-/// The homes of all keys of rows: of a key, its first row.
+/// The place of each key of rows: that of its first row.
 fn row_places_of<'r>(alloc: Global, rows: &'r [SectionRow]) -> Result<RowPlaces<'r>, NoMemory>
     ensures { IfOk result (λ row_places. (k : SectionKey) → get same_key row_places k ≡ row_place_from 0 rows.now k) }
 {
@@ -61,14 +61,14 @@ fn row_places_of<'r>(alloc: Global, rows: &'r [SectionRow]) -> Result<RowPlaces<
     Ok(row_places)
 }
 
-/// The home of a key.
+/// The place of a key.
 fn row_place_at(row_places: &RowPlaces<'_>, key: &SectionKey) -> Option<RowPlace>
     ensures { result ≡ get same_key row_places.now key.now }
 {
     row_places.get(&KeyRef { key }).copied()
 }
 
-/// The homes of the groups' sections, by their numbers; none where a section has no row.
+/// The places of the groups' sections, by their numbers; none where a section has no row.
 pub(crate) fn group_row_places(
     alloc: Global,
     rows: &[SectionRow],

@@ -15,7 +15,7 @@ use std::alloc::Global;
 use std::marker::Model;
 
 /// The offsets of a section's pieces in their order and where they end, in bytes, the greatest of their
-/// alignments, and whether they are anywhere in it.
+/// alignments, and whether they may be anywhere in it.
 #[derive(Drop)]
 pub(crate) struct Walk {
     stretch: Stretch,
@@ -53,7 +53,7 @@ impl Walk {
         self.align
     }
 
-    /// Whether the pieces are anywhere in the section.
+    /// Whether the pieces may be anywhere in the section.
     pub(crate) fn is_patched(&self) -> bool
         ensures { result ≡ self.now.patched }
     {

@@ -1,5 +1,5 @@
 -- This project's own: why an update of an earlier image with sound records cannot be made: the first
--- cause that is, from other options to a value that does not fit its field.
+-- first cause, from other options to a value that does not fit its field.
 use Rattle.std.specs.Prelude.{ℕ, ◌==◌, ◌&&◌, not, Bool, true, false, List, find, Option, Some, option_map, Result, Ok, Err}
 use Rattle.std.specs.Str.{bytes_eq}
 use Rattle.lk_report.specs.declared.causes.Cause.{Cause}

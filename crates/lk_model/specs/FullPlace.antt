@@ -1,6 +1,6 @@
 -- This project's own: where a link that is made anew puts everything. Addresses are those of a program
 -- that is loaded where it was linked for (gABI "Program Loading"), and may be greater than a field
--- holds: `memory_of` reports of it.
+-- holds: `memory_of` says of it.
 use Rattle.std.specs.Prelude.{ℕ, Bool, true, false, if◌then◌else◌, List, [], ◌∷◌, ◌++◌, Option, Some, None, ◌+◌, ◌-◌, ◌^◌, max, min, length, take, map, fold, filter, filter_map, find, option_map, not, ◌||◌}
 use Rattle.std.specs.List.{enumerate_from}
 use Rattle.lk_model.specs.Amounts.{round_up}

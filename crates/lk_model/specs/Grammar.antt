@@ -31,7 +31,7 @@ pub data Valued : Type 0 where
   Patch : Valued
   ThreadCount : Valued
 
--- the words that are alone
+-- the words that are options by themselves
 pub data Flag : Type 0 where
   ExportDynamic : Flag
   InMode : (mode : Mode) → Flag
@@ -205,7 +205,7 @@ open_after open_lib other = open_lib
 abbrev pub open_lib_in : List Phrase → Option ℕ
 open_lib_in phrases = fold open_after None phrases
 
--- the checks of a word that is alone, after those phrases
+-- the checks of a word that is an option by itself, after those phrases
 abbrev pub flag_checks : List Phrase → ℕ → Flag → List (Bool × UsageFault)
 flag_checks earlier number StartLib = (is_some (open_lib_in earlier), NestedLib number) ∷ []
 flag_checks earlier number EndLib = (is_none (open_lib_in earlier), NoLibOpen number) ∷ []

@@ -40,7 +40,7 @@ bucket_word words bucket = slice_index words (2 + bucket)
 abbrev pub chain_word : List (List ℕ) → List ℕ → ℕ → ℕ
 chain_word names words entry = slice_index words (2 + bucket_count (entry_count names) + entry)
 
--- from this word on the chain lists these entries, each of whose words reports the next, and ends with 0
+-- from this word on the chain lists these entries, each of whose words has the next, and ends with 0
 abbrev pub IsChain : List (List ℕ) → List ℕ → ℕ → List ℕ → Type 0
 IsChain names words head [] = head ≡ 0
 IsChain names words head (entry ∷ entries) = (head ≡ entry) × IsChain names words (chain_word names words entry) entries

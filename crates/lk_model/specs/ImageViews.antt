@@ -1,5 +1,5 @@
 -- This project's own: what a link is beside its addresses: which pieces are together in an output
--- section, what each name means, and what a dynamic linker is reported. All links of one command and its
+-- section, what each name means, and what a dynamic linker is given. All links of one command and its
 -- files have the same view, however they were made: it is read from the image alone.
 use Rattle.std.specs.Prelude.{◌≡◌, ℕ, Bool, List, [], map, drop, filter, filter_map, zip, find, Option, Some, None, option_map, Ok, Err, slice_get}
 use Rattle.std.specs.Str.{bytes_eq}
@@ -23,7 +23,7 @@ use Rattle.lk_model.specs.declared.records.NameRow.{NameRow}
 use Rattle.lk_model.specs.declared.records.Records.{Records}
 
 -- an output section that holds a piece, with its pieces in adding order and by section, then commons and
--- copies in order of names. The order in which they are is not reported.
+-- copies in order of names. Their order there is no part of it.
 pub record SectionPieces : Type 0 where
   pub key : SectionKey
   pub pieces : List PieceId

@@ -39,7 +39,7 @@ is_executable_file image =
     && (ehdr_at image 0).e_type == et_exec
 
 -- the checks of a program header, of any type: its own bytes and its range of the file lie in the file; a
--- range without a byte, as thread-local zeros alone have it, is anywhere
+-- range without a byte, as thread-local zeros alone have it, may be anywhere
 abbrev pub header_refusals : List ℕ → ℕ × Phdr → List (Bool × LoadRefusal)
 header_refusals image row =
     (not (lies_in image ((ehdr_at image 0).e_phoff + phdr_size * row.0) phdr_size), LoadRefusal.BadTable row.0)
@@ -190,6 +190,6 @@ abbrev pub load_refusal_after : Option LoadRefusal → List ℕ → Option LoadR
 load_refusal_after (Some refusal) image = Some refusal
 load_refusal_after None image = then_some (is_none (named_in image)) LoadRefusal.BadDynamic
 
--- why a loader refuses an image: the first that is
+-- why a loader refuses an image: the first refusal that holds
 unfoldable pub load_refusal : List ℕ → Option LoadRefusal
 load_refusal image = load_refusal_after (first_fault (load_checks image)) image

@@ -74,7 +74,7 @@ abbrev pub place_is_good : List SectionRow → List PieceRow → Option PieceRow
 place_is_good rows before None = true
 place_is_good rows before (Some piece) = is_good_place rows before piece
 
--- whether a placement reports two pieces of one input apart, which it knows by their section numbers
+-- whether a placement can distinguish two pieces of one input, which it knows by their section numbers
 abbrev pub are_reported_apart : ReadPiece → ReadPiece → Bool
 are_reported_apart a b = not (a.info.section == b.info.section) || (is_none a.placed && is_none b.placed)
 

@@ -29,7 +29,7 @@ input_before i = record {
 unfoldable pub resolved_before : Records → Resolved
 resolved_before base = update_resolved base [] base.options (map input_before base.inputs)
 
--- whether a reference of the earlier link, in this input of it, is where another one does; two of one
+-- whether a reference of the earlier link, in this input of it, is where another one is; two of one
 -- type never share a field
 abbrev pub is_same_site : ℕ → Ref → Ref → Bool
 is_same_site input x y = (y.input == input) && (y.section == x.section) && (y.offset == x.offset) && (y.code == x.code)

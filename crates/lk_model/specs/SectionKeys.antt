@@ -79,7 +79,7 @@ in_file class = not (same_class class Bss || same_class class Tbss)
 abbrev pub is_executable : Class → Bool
 is_executable class = same_class class X || same_class class WX
 
--- the loaded sections whose pieces are anywhere in them
+-- the loaded sections whose pieces may be anywhere in them
 abbrev pub patched_keys : List SectionKey
 patched_keys =
     named (codes ".text") X
@@ -92,7 +92,7 @@ patched_keys =
     ∷ named (codes ".tbss") Tbss
     ∷ []
 
--- whether its pieces are anywhere in it, with room to grow; any other section is the sequence of
+-- whether its pieces may be anywhere in it, with room to grow; any other section is the sequence of
 -- its pieces, or a table
 unfoldable pub is_patched : SectionKey → Bool
 is_patched key = not (is_alloc key.class) || list_any (same_key key) patched_keys

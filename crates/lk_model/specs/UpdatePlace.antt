@@ -20,7 +20,7 @@ use Rattle.lk_model.specs.declared.layouts.SectionRow.{SectionRow}
 use Rattle.lk_model.specs.declared.layouts.SlotTable.{SlotTable}
 use Rattle.lk_model.specs.declared.records.Records.{Records}
 
--- ---- the causes, each kind as the list of all that are, in its order
+-- ---- the causes, each kind as the list of all that hold, in its order
 
 -- whether an output section is not in the earlier image
 abbrev pub is_new : List SectionRow → SectionKey → Bool

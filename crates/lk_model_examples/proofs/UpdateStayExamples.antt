@@ -94,7 +94,7 @@ abbrev block : ℕ → ℕ → ℕ → ℕ → PieceRow
 block name addr size align = record { piece = piece.Common name; section = 3; addr = addr; size = size; align = align }
 
 -- `buffer` grows by the second object's symbol and goes behind `count`, which stays; a new block takes the
--- lowest hole; a block in whose place a definition is is given up
+-- lowest hole; a block that a definition replaces is given up
 blocks_move :
     (placed_reported blocks (link_now blocks (1 ∷ []) plain_options (owner_of_blocks ∷ stamped new (user (common 2 (codes "buffer") 24 8 ∷ common 3 (codes "flag") 4 4 ∷ [])) ∷ []))
     ≡ Ok (record {

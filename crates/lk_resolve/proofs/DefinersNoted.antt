@@ -104,7 +104,7 @@ one_defines false true true false = refl
 one_defines false true false false = refl
 one_defines false false r e = refl
 
--- what is reported of a name goes on by one symbol
+-- what is known of a name goes on by one symbol
 pub noted_on : (now new : Definers) (gs : List Global) (k : ℕ) (g : Global) (name : List ℕ) (i place : ℕ) (all : Bool) → k < length gs → g ≡ get_or gs k g → is_home_placed g.home ≡ true → IsNoted now new g.name place
     → (is_definer now name i || (defines_among (drop k gs) name && nat_eq i place)) ≡ all → (is_definer new name i || (defines_among (drop (k + 1) gs) name && nat_eq i place)) ≡ all
 noted_on now new gs k g name i place all within is placed noted so_far =
@@ -121,7 +121,7 @@ passed_on now gs k g name i place all within is placed so_far =
     ∙ ap (λ b. is_definer now name i || (b && nat_eq i place)) (sym (next_defines gs k g name within is))
     ∙ so_far
 
--- past the last symbol nothing is left to be reported
+-- past the last symbol nothing is left to be noted
 pub all_noted : (now : Definers) (gs : List Global) (k : ℕ) (name : List ℕ) (i place : ℕ) (all : Bool) → length gs ≤ k
     → (is_definer now name i || (defines_among (drop k gs) name && nat_eq i place)) ≡ all → is_definer now name i ≡ all
 all_noted now gs k name i place all past so_far =

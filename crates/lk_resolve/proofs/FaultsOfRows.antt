@@ -14,7 +14,7 @@ use Rattle.lk_model.specs.Winners.{is_in_object}
 use Rattle.lk_resolve.specs.RowFaults.{doubled_in, doubled_on, faults_in, is_some_in_object, mismatched_in, of_row}
 use Rattle.lk_symtab.specs.NameRows.{NameRow, all_symbols, number_of, row_winner, symbols_in}
 
--- what the table reports of a row that is there
+-- what the table has of a row that is there
 pub doubled_of : (paths : List (List ℕ)) (o : Option NameRow) (cs : Contributions) → option_map symbols_in o ≡ Some cs → doubled_on paths cs.name None cs.list ≡ of_row (doubled_in paths) o
 doubled_of paths None cs e = absurd (cc)
 doubled_of paths (Some row) cs e =

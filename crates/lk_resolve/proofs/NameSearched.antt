@@ -161,7 +161,7 @@ all_due s ms t n are all i wanted =
 pub all_reported : (d : Definers) (ms : List (Option Member)) → DefinersAre d ms → AreDefiners d ms
 all_reported d ms are name i e = are name i ∙ e
 
--- what is ready before the first turn: these are the members, each has a turn, and what they define is reported
+-- what is ready before the first turn: these are the members, each has a turn, and what they define is known
 pub record Ready (s : State) (ws : List Member) (ms : List (Option Member)) (t : Turns) (d : Definers) : Type 0 where
   pub due : WantedAreDue s ms t
   pub reported : AreDefiners d ms

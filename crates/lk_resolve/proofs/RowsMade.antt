@@ -35,7 +35,7 @@ alike change other (r ∷ rows) zero row at same =
     ap (λ x. x ∷ rows) (ap change here ∙ same ∙ ap other (sym here))
 alike change other (r ∷ rows) (suc n) row at same = ap (λ l. r ∷ l) (alike change other rows n row at same)
 
--- what the table reports of a row that is there
+-- what the table has of a row that is there
 pub not_referred : (dynamic : Bool) (sections : List (List ℕ)) (rows : List NameRow) (n : ℕ) → option_map row_referred (slice_get rows n) ≡ Some false → rows ≡ with_row (with_making dynamic sections) rows n
 not_referred dynamic sections rows n reports = by (slice_get rows n) refl reports
   where

@@ -1,4 +1,4 @@
--- What code holds of a link, beside what resolution finds.
+-- What code has of a link, beside what resolution finds.
 use Rattle.std.proofs.Common.{◌≡◌, sym, ap, List, map}
 use Rattle.lk_report.specs.declared.causes.OptionRecord.{OptionRecord}
 use Rattle.lk_model.specs.declared.layouts.Needs.{Needs}
@@ -10,7 +10,7 @@ use Rattle.lk_resolve.specs.Given.{IsGiven}
 use Rattle.lk_resolve.specs.Settling.{ResolutionValue}
 use Rattle.lk_symtab.specs.NameRows.{all_symbols, row_visibility, row_winner}
 
--- what is found is what code holds, as far as the tables ask for it
+-- what is found is what code has, as far as the tables ask for it
 pub record Sees (resolution : ResolutionValue) (summaries : List InputSummary) (needs : Needs) (options : OptionRecord) (r : Resolved) : Type 0 where
   pub chosen : r.options ≡ record options { dynamic = resolution.dynamic }
   pub summarized : map input_summary r.inputs ≡ summaries

@@ -200,7 +200,7 @@ none_placed entry rows left (g ∷ gs) e =
     let both : ((is_home_placed g.home && wants_name entry rows g.name) ≡ false) × (places_wanted entry rows gs ≡ false) = none_both (is_home_placed g.home && wants_name entry rows g.name) (places_wanted entry rows gs) e in
     λ i. home_placed left g.home (wants_name entry rows g.name) both.0 i || none_placed entry rows left gs both.1 i
 
--- a row is wanted by what the table reports of it
+-- a row is wanted by what the table has of it
 pub row_wanted_at : (entry name : List ℕ) (o : Option NameRow) (needed : Bool) (w : Winner) → option_map row_needed o ≡ Some needed → option_map row_winner o ≡ Some w → wants_row entry name o ≡ ((bytes_eq entry name || needed) && is_nothing w)
 row_wanted_at entry name None needed w n e = absurd (cc)
 row_wanted_at entry name (Some row) needed w n e =

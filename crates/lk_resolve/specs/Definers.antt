@@ -16,7 +16,7 @@ use Rattle.lk_resolve.specs.Wanted.{is_home_placed}
 abbrev pub places_under : List (Bor (List ℕ) × List ℕ) → List ℕ → List ℕ
 places_under entries name = unwrap_or (lookup (λ (key : Bor (List ℕ)). bytes_eq name key.now) entries) []
 
--- whether the member at a place is reported to define a name
+-- whether the member at a place is known to define a name
 abbrev pub is_definer : Definers → List ℕ → ℕ → Bool
 is_definer definers name i = list_any (nat_eq i) (places_under definers.places.entries name)
 
@@ -31,14 +31,14 @@ abbrev pub defines_in : Option Member → List ℕ → Bool
 defines_in None name = false
 defines_in (Some m) name = defines_among m.summary.now.globals name
 
--- what is reported of the names, where a member at a place was noted to define one, or these of its symbols
+-- what is known of the names, where a member at a place was noted to define one, or these of its symbols
 abbrev pub IsNoted : Definers → Definers → List ℕ → ℕ → Type 0
 IsNoted old new name place = (other : List ℕ) (i : ℕ) → is_definer new other i ≡ (is_definer old other i || (bytes_eq other name && nat_eq i place))
 
 abbrev pub AreNoted : Definers → Definers → List Global → ℕ → Type 0
 AreNoted old new globals place = (other : List ℕ) (i : ℕ) → is_definer new other i ≡ (is_definer old other i || (defines_among globals other && nat_eq i place))
 
--- the members that are reported to define a name are those of these that do
+-- the members that are known to define a name are those of these that do
 abbrev pub DefinersAre : Definers → List (Option Member) → Type 0
 DefinersAre definers members = (name : List ℕ) (i : ℕ) → is_definer definers name i ≡ defines_in (get_or members i None) name
 

@@ -66,7 +66,7 @@ AskedAt definers place (Some m) true s now old new ms left =
 abbrev pub WantedAreDue : State → List (Option Member) → Turns → Type 0
 WantedAreDue s members turns = (i : ℕ) → wants_at s (get_or members i None) ≡ true → is_due turns i ≡ true
 
--- each member is reported to define the names that it defines
+-- each member is known to define the names that it defines
 abbrev pub AreDefiners : Definers → List (Option Member) → Type 0
 AreDefiners definers members = (name : List ℕ) (i : ℕ) → defines_in (get_or members i None) name ≡ true → is_definer definers name i ≡ true
 

@@ -1,4 +1,4 @@
--- This project's own: what is resolved once all inputs are added, and what it has to do with what the added
+-- This project's own: the resolution once all inputs are added, and what it has to do with what the added
 -- inputs decide.
 use Rattle.std.specs.Prelude.{◌≡◌, ℕ, ◌<◌, ◌≤◌, ◌^◌, Bool, List, [], length, map, Result, Ok, Err}
 use Rattle.std.specs.List.{list_any}
@@ -15,7 +15,7 @@ use Rattle.lk_resolve.specs.RowFaults.{faults_in}
 use Rattle.lk_resolve.specs.States.{State}
 use Rattle.lk_symtab.specs.NameRows.{NameRow, all_symbols, row_visibility, row_winner}
 
--- what is once a link is resolved: the inputs' paths, the names with their symbols, made or not, the
+-- what a link has once it is resolved: the inputs' paths, the names with their symbols, made or not, the
 -- numbers of the added inputs, whether one of them is shared, and the kept sections
 pub record ResolutionValue : Type 0 where
   pub paths : List (List ℕ)

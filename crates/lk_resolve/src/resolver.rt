@@ -20,7 +20,7 @@ use std::alloc::Global;
 use std::marker::Model;
 
 /// Takes the inputs of a link in the order in which they are added. Contracts see it as the state of the added
-/// inputs, or as none once memory was wanted: it then answers out of memory from then on.
+/// inputs, or as none once it ran out of memory: it answers so from then on.
 #[derive(Drop)]
 pub struct Resolver {
     alloc: Global,

@@ -1,4 +1,4 @@
-//! What is kept is resolved: the names are counted and made, and their faults are gathered.
+//! The state becomes a resolution: the names are counted and made, and their faults are gathered.
 
 ghost use Rattle.std.specs.Prelude.{◌≡◌, nat_lt, length};
 ghost use Rattle.lk_resolve.specs.Settling.{SettlesTo};
@@ -16,7 +16,7 @@ fn has_faults(faults: &FaultList) -> bool
     faults.as_slice().len() > 0
 }
 
-/// Settles what is kept.
+/// Settles the state.
 ///
 /// # Errors
 /// Too many names; then the faults of the names; out of memory.

@@ -23,7 +23,7 @@ use std::alloc::Global;
 use std::marker::Model;
 
 /// What the objects of a link so far need, and their faults. Contracts see it as what is noted of their
-/// references, or as none once memory was wanted: it then answers out of memory from then on.
+/// references, or as none once it ran out of memory: it answers so from then on.
 #[derive(Drop)]
 pub struct LinkScan {
     alloc: Global,

@@ -109,7 +109,7 @@ fn kind_under(header: &Ehdr) -> Result<Kind, InputFault>
 /// What a file is, by its first bytes.
 ///
 /// # Errors
-/// The first that is: an archive, a script, no ELF file (also where the file is shorter than its
+/// The first fault that holds: an archive, a script, no ELF file (also where the file is shorter than its
 /// header), another class, byte order or version, another machine, a type that is neither relocatable
 /// nor shared.
 #[tactic(auto, using(crate::proofs::FaultsFirst::header_reported))]

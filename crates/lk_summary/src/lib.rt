@@ -1,4 +1,4 @@
-//! What a file is, by its first bytes, and the types in which it is reported what an input holds.
+//! What a file is, by its first bytes, and the types that say what an input has.
 //!
 //! Bytes of any file come in; out comes whether it is a relocatable or a shared object, or the first of
 //! the faults of its identification (gABI "ELF Header", "ELF Identification"). `kind_of` is the

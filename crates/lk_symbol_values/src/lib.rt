@@ -1,7 +1,7 @@
 //! The values of symbols at a placement, and the numbers of a relocation (gABI "Symbol Table", "Relocation";
 //! psABI x86-64 "Relocation Types", "Thread-Local Storage").
 //!
-//! What resolution resolved comes in (`Resolution`), with the summaries of the inputs and a placement, which may
+//! What resolution found comes in (`Resolution`), with the summaries of the inputs and a placement, which may
 //! be a full one or that of an update. `Values::new` looks at each name, piece and slot once; then each question
 //! is answered by look-ups by number or by hash: where a section of an input begins (`piece_start`), what a name or a
 //! LOCAL symbol has the value to the relocations through it (`name_numbers`, `local_numbers`), what a GOT slot holds

@@ -6,7 +6,7 @@ ghost use Rattle.lk_symtab.specs.SymbolLaws.{FoundWhereAdded, MakesOne, MakingKe
 /// lk_model's names with their symbols, in order of their first symbol; so they are again with each further
 /// symbol. A name has a number exactly where a symbol of it was added; the row with that number has all
 /// symbols of the name, and a name without a number has none. A name keeps its number. The linker makes the
-/// names that it is reported to make and no others, and that changes no symbol.
+/// names that it is asked to make and no others, and that changes no symbol.
 pub fn symbols_are_the_models()
     ensures table { TableIsTheModels }
     ensures goes_on { SymbolsGoOn }
