@@ -12,7 +12,7 @@ use Rattle.lk_model.specs.Views.{Input}
 use Rattle.lk_law_placement.proofs.DistinctLists.{all_mapped}
 use Rattle.lk_scan_inputs.specs.Objects.{AreObjects, IsObject, objects_from, objects_of}
 use Rattle.lk_relocate.specs.ObjectsOfInputs.{HoldsObject}
-use Rattle.lk_law_loading.proofs.AddedNumbered.{added_have}
+use Rattle.lk_model.proofs.AddedOnce.{added_have}
 use Rattle.lk_inputs.specs.Named.{files_of}
 use Rattle.lk_inputs.specs.declared.input_files.InputFile.{InputFile}
 

@@ -1,100 +1,10 @@
--- What holds of every input of a command with its number holds of every added one.
-use Rattle.std.specs.Prelude.{◌≡◌, ℕ, zero, suc, ◌+◌, ◌==◌, Bool, true, false, cond, List, [], ◌∷◌, ◌++◌, flat_map, fold, length, Option, Some, None, refl}
-use Rattle.std.specs.List.{AllByRecursion, slice_get}
-use Rattle.std.proofs.Common.{arith, subst}
-use Rattle.lk_model.specs.Adding.{added_inputs, is_wanted_member, item_added, items_among, items_of, with_front, with_item, with_one}
+-- What holds of all that added inputs give, whatever was claimed before.
+use Rattle.std.specs.Prelude.{List, [], ◌∷◌, ◌++◌, ℕ, flat_map}
+use Rattle.std.specs.List.{AllByRecursion}
 use Rattle.lk_model.specs.Groups.{signatures_in, with_claims}
-use Rattle.lk_model.specs.Numbered.{Numbered, numbered_from}
-use Rattle.lk_model.specs.Queues.{listed_within, next, turn}
-use Rattle.lk_model.specs.Views.{Input}
+use Rattle.lk_model.specs.Numbered.{Numbered}
 use Rattle.lk_law_placement.proofs.DistinctLists.{all_joined}
-use Rattle.lk_law_placement.proofs.SoundInputsChecks.{AllSome}
 
--- ---- searches
-
--- what holds of all members holds of the next one and of the queue after it
-turn_keeps :
-    {M : Type 0} (P : M → Type 0) (p : M → Bool) (past ms : List M)
-    → AllByRecursion P past
-    → AllByRecursion P ms
-    → AllSome (λ (found : M × List M). P found.0 × AllByRecursion P found.1) (turn p past ms)
-turn_keeps P p past [] before all = tt
-turn_keeps {M} P p past (m ∷ ms) before all = go (p m) (turn_keeps P p (past ++ m ∷ []) ms (all_joined P past (m ∷ []) before (all.0, tt)) all.1)
-  where
-    go :
-        (b : Bool)
-        → AllSome (λ (found : M × List M). P found.0 × AllByRecursion P found.1) (turn p (past ++ m ∷ []) ms)
-        → AllSome (λ (found : M × List M). P found.0 × AllByRecursion P found.1) (cond b (Some (m, ms ++ past)) (turn p (past ++ m ∷ []) ms))
-    go true rest = (all.0, all_joined P ms past all.1 before)
-    go false rest = rest
-
--- and of the members that a search lists
-listed_keeps :
-    {S M : Type 0} (P : M → Type 0) (wants : S → M → Bool) (step : S → M → S) (n : ℕ) (s : S) (waiting : List M)
-    → AllByRecursion P waiting
-    → AllByRecursion P (listed_within wants step n s waiting)
-listed_keeps P wants step zero s waiting all = tt
-listed_keeps {S} {M} P wants step (suc n) s waiting all = go (next (wants s) waiting) (turn_keeps P (wants s) [] waiting tt all) (listed_keeps P wants step n)
-  where
-    go :
-        (o : Option (M × List M))
-        → AllSome (λ (found : M × List M). P found.0 × AllByRecursion P found.1) o
-        → ((t : S) (rest : List M) → AllByRecursion P rest → AllByRecursion P (listed_within wants step n t rest))
-        → AllByRecursion P (elim o [ None ↦ [] | Some found ↦ found.0 ∷ listed_within wants step n (step s found.0) found.1 ])
-    go None keeps later = tt
-    go (Some found) keeps later = (keeps.0, later (step s found.0) found.1 keeps.1)
-
--- ---- inputs
-
--- all inputs of an item have it
-abbrev ItemHas : (Numbered → Type 0) → ℕ × List Numbered → Type 0
-ItemHas P item = AllByRecursion P item.1
-
-front_keeps :
-    (P : Numbered → Type 0) (lib : ℕ) (x : Numbered) (items : List (ℕ × List Numbered))
-    → P x
-    → AllByRecursion (ItemHas P) items
-    → AllByRecursion (ItemHas P) (with_front lib x items)
-front_keeps P zero x items own all = ((own, tt), all)
-front_keeps P (suc n) x [] own all = ((own, tt), tt)
-front_keeps P (suc n) x ((lib, members) ∷ items) own all = go (lib == suc n)
-  where
-    go : (b : Bool) → AllByRecursion (ItemHas P) (cond b ((lib, x ∷ members) ∷ items) ((suc n, x ∷ []) ∷ (lib, members) ∷ items))
-    go true = ((own, all.0), all.1)
-    go false = ((own, tt), all)
-
--- each input, with its number, has it
-abbrev pub EachHas : (Numbered → Type 0) → ℕ → List Input → Type 0
-EachHas P n inputs = (m : ℕ) (x : Input) → slice_get inputs m ≡ Some x → P (record { number = n + m; summary = x.summary })
-
-items_keep : (P : Numbered → Type 0) (n : ℕ) (inputs : List Input) → EachHas P n inputs → AllByRecursion (ItemHas P) (items_among (numbered_from n inputs))
-items_keep P n [] each = tt
-items_keep P n (x ∷ xs) each =
-    let first : n + 0 ≡ n = omega arith in
-    let own : P (record { number = n; summary = x.summary }) = subst (λ (k : ℕ). P (record { number = k; summary = x.summary })) first (each 0 x refl) in
-    front_keeps P x.lib (record { number = n; summary = x.summary }) (items_among (numbered_from (n + 1) xs)) own
-    (items_keep P (n + 1) xs
-    (λ m y there. let later : n + suc m ≡ n + 1 + m = omega arith in subst (λ (k : ℕ). P (record { number = k; summary = y.summary })) later (each (suc m) y there)))
-
-item_keeps : (P : Numbered → Type 0) (entry : List ℕ) (added : List Numbered) (item : ℕ × List Numbered) → ItemHas P item → AllByRecursion P (item_added entry added item)
-item_keeps P entry added (zero, members) all = all
-item_keeps P entry added (suc n, members) all = listed_keeps P (is_wanted_member entry) with_one (length members) added members all
-
-added_keep :
-    (P : Numbered → Type 0) (entry : List ℕ) (added : List Numbered) (items : List (ℕ × List Numbered))
-    → AllByRecursion P added
-    → AllByRecursion (ItemHas P) items
-    → AllByRecursion P (fold (with_item entry) added items)
-added_keep P entry added [] before all = before
-added_keep P entry added (item ∷ items) before all =
-    added_keep P entry (with_item entry added item) items (all_joined P added (item_added entry added item) before (item_keeps P entry added item all.0)) all.1
-
--- the added inputs are inputs of the command, with their numbers
-pub added_have : (P : Numbered → Type 0) (entry : List ℕ) (inputs : List Input) → EachHas P 0 inputs → AllByRecursion P (added_inputs entry inputs)
-unfolding added_inputs
-added_have P entry inputs each = added_keep P entry [] (items_of inputs) tt (items_keep P 0 inputs each)
-
--- what holds of all that added inputs give, whatever was claimed before
 pub claims_keep :
     {A : Type 0} (P : Numbered → Type 0) (Q : A → Type 0) (f : List (List ℕ) → Numbered → List A)
     → ((claimed : List (List ℕ)) (x : Numbered) → P x → AllByRecursion Q (f claimed x))

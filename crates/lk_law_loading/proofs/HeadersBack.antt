@@ -5,11 +5,9 @@ use Rattle.std.proofs.Common.{ap, append_assoc, arith, length-append, subst, sym
 use Rattle.std.proofs.lemmas.List.{take-append-drop}
 use Rattle.lk_elf.specs.Fields.{bytes_of, num}
 use Rattle.lk_elf.specs.Records.{ehdr_bytes, phdr_at, phdr_bytes}
-use Rattle.lk_elf.specs.declared.file_header.Ehdr.{Ehdr}
 use Rattle.lk_elf.specs.declared.program_header.Phdr.{Phdr}
 use Rattle.lk_elf.proofs.PhdrBack.{phdr_at-phdr_bytes}
-use Rattle.lk_elf.proofs.Writing.{num_back}
-use Rattle.lk_model.specs.FileHeader.{exec_stack_of, file_header, header_bytes, identification}
+use Rattle.lk_model.specs.FileHeader.{exec_stack_of, file_header, header_bytes}
 use Rattle.lk_model.specs.Images.{stretch}
 use Rattle.lk_model.specs.Loading.{header_in, headers_in}
 use Rattle.lk_model.specs.Segments.{program_headers}
@@ -17,6 +15,7 @@ use Rattle.lk_model.specs.Stretches.{IsAt}
 use Rattle.lk_model.specs.Tail.{Part}
 use Rattle.lk_model.specs.Views.{Resolved}
 use Rattle.lk_model.specs.declared.layouts.Placement.{Placement}
+use Rattle.lk_model.proofs.FileHeaderBack.{program-headers-back}
 
 -- each number of a program header fits its field
 pub record HeaderFits (h : Phdr) : Type 0 where
@@ -56,41 +55,6 @@ headers_from pre post (h ∷ hs) at k long fits =
 
 -- ---- the file header
 
--- a file header with this identification
-abbrev header_with : ℕ → ℕ → ℕ → ℕ → ℕ → ℕ → ℕ → ℕ → ℕ → ℕ → ℕ → ℕ → ℕ → Ehdr
-header_with type machine version entry phoff shoff flags ehsize phentsize phnum shentsize shnum shstrndx = record {
-  e_ident = identification;
-  e_type = type;
-  e_machine = machine;
-  e_version = version;
-  e_entry = entry;
-  e_phoff = phoff;
-  e_shoff = shoff;
-  e_flags = flags;
-  e_ehsize = ehsize;
-  e_phentsize = phentsize;
-  e_phnum = phnum;
-  e_shentsize = shentsize;
-  e_shnum = shnum;
-  e_shstrndx = shstrndx;
-}
-
--- what it reports of the program headers
-reported_back :
-    (type machine version entry phoff shoff flags ehsize phentsize phnum shentsize shnum shstrndx : ℕ) (post : List ℕ)
-    → phoff < 2 ^ 64
-    → phnum < 2 ^ 16
-    → (num (ehdr_bytes (header_with type machine version entry phoff shoff flags ehsize phentsize phnum shentsize shnum shstrndx) ++ post) 32 8 ≡ phoff)
-    × (num (ehdr_bytes (header_with type machine version entry phoff shoff flags ehsize phentsize phnum shentsize shnum shstrndx) ++ post) 56 2 ≡ phnum)
-    × (length (ehdr_bytes (header_with type machine version entry phoff shoff flags ehsize phentsize phnum shentsize shnum shstrndx)) ≡ 64)
-unfolding ehdr_bytes bytes_of
-reported_back type machine version entry phoff shoff flags ehsize phentsize phnum shentsize shnum shstrndx post low few =
-    let bytes = ehdr_bytes (header_with type machine version entry phoff shoff flags ehsize phentsize phnum shentsize shnum shstrndx) in (
-      num_back 0 32 32 8 phoff [] bytes post refl refl refl low,
-      num_back 0 56 56 2 phnum [] bytes post refl refl refl few,
-      refl,
-    )
-
 file_header_reported :
     (r : Resolved) (place : Placement) (parts : List Part) (post : List ℕ)
     → length (program_headers place (exec_stack_of r)) < 2 ^ 16
@@ -100,7 +64,7 @@ file_header_reported :
 unfolding file_header
 file_header_reported r place parts post few =
     let h = file_header r place parts in
-    reported_back h.e_type h.e_machine h.e_version h.e_entry h.e_phoff h.e_shoff h.e_flags h.e_ehsize h.e_phentsize h.e_phnum h.e_shentsize h.e_shnum h.e_shstrndx post (omega arith) few
+    program-headers-back h.e_type h.e_machine h.e_version h.e_entry h.e_phoff h.e_shoff h.e_flags h.e_ehsize h.e_phentsize h.e_phnum h.e_shentsize h.e_shnum h.e_shstrndx post (omega arith) few
 
 -- ---- an image
 

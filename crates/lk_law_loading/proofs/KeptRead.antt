@@ -43,7 +43,8 @@ use Rattle.lk_law_placement.proofs.DistinctLists.{all_joined, all_mapped}
 use Rattle.lk_law_placement.proofs.PiecesLists.{all_numbered_one}
 use Rattle.lk_law_placement.proofs.SoundInputsChecks.{AllSome, all_reported}
 use Rattle.lk_law_loading.specs.Loadable.{ThreadNamed}
-use Rattle.lk_law_loading.proofs.AddedNumbered.{EachHas, added_have, claims_keep}
+use Rattle.lk_model.proofs.AddedOnce.{EachHas, added_have}
+use Rattle.lk_law_loading.proofs.AddedNumbered.{claims_keep}
 use Rattle.lk_law_loading.proofs.RelocationsFit.{WholeInfo, passing_whole}
 
 -- ---- inputs

@@ -7,7 +7,6 @@ pub mod SoundInputsPowers
 pub mod SoundInputsChecks
 pub mod SoundInputsPieces
 pub mod SoundInputsSymbols
-pub mod SoundInputsAdded
 pub mod SoundInputsWinners
 pub mod SoundInputsKept
 pub mod PiecesLists

@@ -31,7 +31,7 @@ use Rattle.lk_model.proofs.Rising.{all_map, all_filter}
 use Rattle.lk_law_placement.specs.SoundPieces.{IsPower, SoundPiece, SoundPieces}
 use Rattle.lk_law_placement.specs.SoundInputs.{SoundInfo, SoundInput, SoundInputs, SoundSummary}
 use Rattle.lk_law_placement.proofs.DistinctLists.{all_joined, all_mapped}
-use Rattle.lk_law_placement.proofs.SoundInputsAdded.{Has, added_inputs_have}
+use Rattle.lk_model.proofs.AddedOnce.{Has, added_inputs_have}
 use Rattle.lk_law_placement.proofs.SoundInputsChecks.{AllSome, all_reported}
 use Rattle.lk_law_placement.proofs.SoundInputsPowers.{copy_power}
 use Rattle.lk_law_placement.proofs.SoundInputsSymbols.{object_is_sound, shared_is_sound}

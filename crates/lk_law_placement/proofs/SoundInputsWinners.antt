@@ -22,7 +22,7 @@ use Rattle.lk_model.proofs.Rising.{all_map, all_filter, all_pass}
 use Rattle.lk_law_placement.specs.SoundPieces.{IsPower}
 use Rattle.lk_law_placement.specs.SoundInputs.{SoundGlobal, SoundSummary}
 use Rattle.lk_law_placement.proofs.DistinctLists.{all_always, all_both, all_joined, all_mapped}
-use Rattle.lk_law_placement.proofs.SoundInputsAdded.{Has}
+use Rattle.lk_model.proofs.AddedOnce.{Has}
 use Rattle.lk_law_placement.proofs.SoundInputsChecks.{AllSome}
 use Rattle.lk_law_placement.proofs.SoundInputsPowers.{greater_power}
 use Rattle.lk_law_placement.proofs.SoundInputsSymbols.{is_common_home}

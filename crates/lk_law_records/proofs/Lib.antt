@@ -4,7 +4,6 @@ pub mod Fields
 pub mod Records
 pub mod RecordValues
 pub mod InputsRead
-pub mod AddedOnce
 pub mod Within
 pub mod FoundAgain
 pub mod KeptRows

@@ -27,7 +27,7 @@ use Rattle.lk_model.specs.declared.layouts.Placement.{Placement}
 use Rattle.lk_model.specs.declared.summaries.InputSummary.{InputSummary}
 use Rattle.lk_model.specs.declared.summaries.PieceInfo.{PieceInfo}
 use Rattle.lk_law_records.specs.Recordable.{InputFits, IsRecordable, PieceFits, numbers_of}
-use Rattle.lk_law_records.proofs.AddedOnce.{IsOf, added-of, added-once}
+use Rattle.lk_model.proofs.AddedOnce.{IsOf, added_of, added_distinct}
 use Rattle.lk_law_records.proofs.Candidates.{HasDistinct, candidates, candidates-apart, candidates-input, kept-within}
 use Rattle.lk_law_records.proofs.FoundAgain.{Matches, row_among}
 use Rattle.lk_law_records.proofs.InputsRead.{inputs-read, read_of_records}
@@ -98,7 +98,7 @@ module _ (r : Resolved) (place : Placement) (full : IsFull r place) where
     added-distinct : AllByRecursion HasDistinct added
     added-distinct =
         all-placed HasDistinct added (λ k m e.
-        let there = found-there r.inputs m (all-at (IsOf r.inputs) added k m (added-of r.options.entry r.inputs) e) in
+        let there = found-there r.inputs m (all-at (IsOf r.inputs) added k m (added_of r.options.entry r.inputs) e) in
         subst (λ (s : InputSummary). IsDistinct nat_eq (numbers_of s.pieces)) there.1.1
         (all-at (λ (x : Input). IsDistinct nat_eq (numbers_of x.summary.pieces)) r.inputs m.number there.0 inputs-distinct there.1.0))
 
@@ -107,7 +107,7 @@ module _ (r : Resolved) (place : Placement) (full : IsFull r place) where
     suits : (n : ℕ) (i : Input) → slice_get r.inputs n ≡ Some i → PiecesSuit place n i
     suits n i found =
         let own = all-at InputFits r.inputs n i fits found in
-        let each = rows-are place.sections r.inputs added section_rows inputs-distinct (added-of r.options.entry r.inputs) sections-within in
+        let each = rows-are place.sections r.inputs added section_rows inputs-distinct (added_of r.options.entry r.inputs) sections-within in
         all-placed (λ (p : PieceInfo). Suits place.sections n p (piece_row_of place (id.Section n p.section))) i.summary.pieces (λ k p at.
         subst (λ rows. Suits place.sections n p (row_among rows (id.Section n p.section))) (sym two-parts)
         (piece-suits place.sections r.inputs section_rows made_rows n i k p each rows-are-made found at (all-at PieceFits i.summary.pieces k p own.summary.pieces at)))
@@ -119,10 +119,10 @@ module _ (r : Resolved) (place : Placement) (full : IsFull r place) where
     rows-in-order x entry read =
         let order : recorded_order x ≡ numbers_in added = order-again x place r.added r.options.entry r.inputs entry read in
         let look : List PieceRow → List PieceRow = λ rows. filter_map (λ (k : KeptPiece). row_among rows k.piece) (candidates added) in
-        let apart = candidates-apart added (added-once r.options.entry r.inputs) added-distinct in
+        let apart = candidates-apart added (added_distinct r.options.entry r.inputs) added-distinct in
         let first : flat_map (placed_of x) (recorded_order x) ≡ section_rows =
         ap (flat_map (placed_of x)) order
-        ∙ placed-again x place r.added r.inputs added read (added-of r.options.entry r.inputs)
+        ∙ placed-again x place r.added r.inputs added read (added_of r.options.entry r.inputs)
         ∙ ap look two-parts
         ∙ rows-again place.sections section_rows made_rows added sections-within apart rows-are-made in
         ap (λ l. l ++ filter is_made_piece place.pieces) first ∙ ap (λ l. section_rows ++ l) made-left ∙ sym two-parts

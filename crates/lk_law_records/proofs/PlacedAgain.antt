@@ -22,7 +22,7 @@ use Rattle.lk_model.specs.declared.layouts.SectionRow.{SectionRow}
 use Rattle.lk_model.specs.declared.summaries.InputSummary.{InputSummary}
 use Rattle.lk_model.specs.declared.summaries.PieceInfo.{PieceInfo}
 use Rattle.lk_law_records.specs.Recordable.{PieceFits, numbers_of}
-use Rattle.lk_law_records.proofs.AddedOnce.{IsOf}
+use Rattle.lk_model.proofs.AddedOnce.{IsOf}
 use Rattle.lk_law_records.proofs.Candidates.{candidates, sections_of}
 use Rattle.lk_law_records.proofs.FoundAgain.{Matches, AllApart, among-first, among-has, found-again, row_among}
 use Rattle.lk_law_records.proofs.InputsRead.{read_in, read_of}

@@ -25,7 +25,8 @@ use Rattle.lk_law_records.specs.RecordedLaws.{FullPlaceIsRecorded}
 use Rattle.lk_law_records.proofs.InputsRead.{read_of_records}
 use Rattle.lk_law_records.proofs.LinkRead.{IsFull, full-link, link-read, link_inputs, link_texts, rows-in-order}
 use Rattle.lk_law_records.proofs.NamedParts.{only-inputs, only-texts, strings-there}
-use Rattle.lk_law_records.proofs.SectionsBack.{around, end-last, header-back, headers-back, is_named_among, named-is, are_at-first, are_at-second}
+use Rattle.lk_model.proofs.FileHeaderBack.{header-back}
+use Rattle.lk_law_records.proofs.SectionsBack.{around, end-last, headers-back, is_named_among, named-is, are_at-first, are_at-second}
 use Rattle.lk_law_records.proofs.TailHeaders.{headers-are, headers-fit, headers_at, inputs_name, length-headers, link_shdrs, names_of, part_shdr, parts-are, parts-below, strings_name, strings_of, texts_name, third_at, three_parts}
 
 -- ---- the stretches that are looked at

@@ -23,7 +23,7 @@ use Rattle.lk_model.specs.declared.summaries.PieceInfo.{PieceInfo}
 use Rattle.lk_model.proofs.InOrder.{full_keys}
 use Rattle.lk_model.proofs.Rising.{all_filter, all_of_map}
 use Rattle.lk_law_records.specs.Recordable.{InputFits, PieceFits, has_zero, is_record_name}
-use Rattle.lk_law_records.proofs.AddedOnce.{IsOf, added-of}
+use Rattle.lk_model.proofs.AddedOnce.{IsOf, added_of}
 use Rattle.lk_law_records.proofs.Candidates.{candidates, kept-within, sections_of}
 use Rattle.lk_law_records.proofs.LinkRead.{IsFull}
 use Rattle.lk_law_records.proofs.Lists.{all-append, all-at, all-mapped, all-placed}
@@ -93,7 +93,7 @@ kept-plain : (r : Resolved) (place : Placement) → IsFull r place → AllByRecu
 kept-plain r place full all =
     let added = added_inputs r.options.entry r.inputs in
     let sections : AllByRecursion (λ (k : KeptPiece). IsPlainKey k.key) (kept_sections added) =
-    within-all Same (λ (k : KeptPiece). IsPlainKey k.key) (kept_sections added) (candidates added) (kept-within added) (candidates-plain r.inputs added all (added-of r.options.entry r.inputs)) in
+    within-all Same (λ (k : KeptPiece). IsPlainKey k.key) (kept_sections added) (candidates added) (kept-within added) (candidates-plain r.inputs added all (added_of r.options.entry r.inputs)) in
     subst (AllByRecursion (λ (k : KeptPiece). IsPlainKey k.key)) (sym full.kept)
     (all-append (λ (k : KeptPiece). IsPlainKey k.key) (kept_sections added) full.names sections (bss-plain full.names full.bss))
 

@@ -6,13 +6,11 @@ use Rattle.std.specs.List.{flat_map, AllByRecursion, range_with_len, enumerate_f
 use Rattle.std.proofs.lemmas.Bool.{le-leb}
 use Rattle.std.proofs.lemmas.List.{take-append-drop, length-take-le}
 use Rattle.lk_elf.specs.Fields.{bytes_of}
-use Rattle.lk_elf.specs.Records.{ehdr_at, ehdr_bytes, shdr_at, shdr_bytes}
+use Rattle.lk_elf.specs.Records.{shdr_at, shdr_bytes}
 use Rattle.lk_elf.specs.declared.file_header.Ehdr.{Ehdr}
 use Rattle.lk_elf.specs.declared.section_header.Shdr.{Shdr}
 use Rattle.lk_elf.proofs.ShdrBack.{shdr_at-shdr_bytes}
-use Rattle.lk_elf.proofs.Writing.{num_back}
 use Rattle.lk_model.specs.Elf.{section_headers_of, bytes_under, text_in, name_at, section_name}
-use Rattle.lk_model.specs.FileHeader.{identification}
 use Rattle.lk_model.specs.RecordedPlace.{has_name, is_named_section, only_bytes, named_bytes}
 use Rattle.lk_model.specs.Stretches.{Stretch, IsAt, AllAreAt, end_of_all}
 use Rattle.lk_model.specs.Views.{Elf}
@@ -37,40 +35,6 @@ pub around : (image : List ℕ) (s : Stretch) → IsAt image s → image ≡ tak
 around image s is_at =
     sym (take-append-drop s.at image)
     ∙ ap (λ l. take s.at image ++ l) (sym (take-append-drop (length s.bytes) (drop s.at image)) ∙ ap (λ l. l ++ drop (length s.bytes) (drop s.at image)) is_at)
-
--- ---- the file header
-
--- a file header of this identification
-abbrev pub header_with : ℕ → ℕ → ℕ → ℕ → ℕ → ℕ → ℕ → ℕ → ℕ → ℕ → ℕ → ℕ → ℕ → Ehdr
-header_with type machine version entry phoff shoff flags ehsize phentsize phnum shentsize shnum shstrndx = record {
-  e_ident = identification;
-  e_type = type;
-  e_machine = machine;
-  e_version = version;
-  e_entry = entry;
-  e_phoff = phoff;
-  e_shoff = shoff;
-  e_flags = flags;
-  e_ehsize = ehsize;
-  e_phentsize = phentsize;
-  e_phnum = phnum;
-  e_shentsize = shentsize;
-  e_shnum = shnum;
-  e_shstrndx = shstrndx;
-}
-
--- its fields that lead to the section headers
-pub header-back : (type machine version entry phoff shoff flags ehsize phentsize phnum shentsize shnum shstrndx : ℕ) (post : List ℕ)
-    → shoff < 2 ^ 64 → shnum < 2 ^ 16 → shstrndx < 2 ^ 16
-    → let bytes = ehdr_bytes (header_with type machine version entry phoff shoff flags ehsize phentsize phnum shentsize shnum shstrndx) ++ post in
-    ((ehdr_at bytes 0).e_shoff ≡ shoff) × ((ehdr_at bytes 0).e_shnum ≡ shnum) × ((ehdr_at bytes 0).e_shstrndx ≡ shstrndx)
-unfolding ehdr_at ehdr_bytes bytes_of
-header-back type machine version entry phoff shoff flags ehsize phentsize phnum shentsize shnum shstrndx post low-off low-num low-index =
-    let bytes = ehdr_bytes (header_with type machine version entry phoff shoff flags ehsize phentsize phnum shentsize shnum shstrndx) in (
-      num_back 0 40 40 8 shoff [] bytes post refl refl refl low-off,
-      num_back 0 60 60 2 shnum [] bytes post refl refl refl low-num,
-      num_back 0 62 62 2 shstrndx [] bytes post refl refl refl low-index,
-    )
 
 -- ---- the section headers
 

@@ -22,7 +22,7 @@ use Rattle.lk_symtab.specs.NameRows.{all_symbols, row_winner}
 use Rattle.lk_layout.specs.Grouping.{Groups, groups_of, keys_in, keys_of}
 use Rattle.lk_layout.specs.KeptIn.{kept_in, names_in, sections_in}
 use Rattle.lk_layout.specs.Layouts.{LayoutGives, PlaceGives, placement_of}
-use Rattle.lk_layout.proofs.AddedOnce.{Apart, HaveSummaries, added_apart, added_have}
+use Rattle.lk_model.proofs.AddedOnce.{Apart, HaveSummaries, added_apart, added_summaries}
 use Rattle.lk_layout.proofs.GroupsGrow.{keys_again}
 use Rattle.lk_layout.proofs.NamesReported.{names_are}
 use Rattle.lk_layout.proofs.PlacesReported.{full_is}
@@ -47,7 +47,7 @@ pub kept_reported : (resolution : ResolutionValue) (summaries : List InputSummar
 kept_reported resolution summaries needs options xs given =
     let added : List Numbered = added_inputs options.entry xs in
     let found : Found = found_of (paths_of xs) options.entry added in
-    let have : HaveSummaries summaries added = subst (λ (ss : List InputSummary). HaveSummaries ss added) given.summarized (added_have options.entry xs) in
+    let have : HaveSummaries summaries added = subst (λ (ss : List InputSummary). HaveSummaries ss added) given.summarized (added_summaries options.entry xs) in
     let sections : sections_in resolution.kept summaries resolution.added ≡ kept_sections added = sections_reported resolution summaries (paths_of xs) options.entry added given.found have (added_apart options.entry xs) in
     let names : names_in needs.copies 0 resolution.rows ≡ name_pieces (resolve options xs).needs.copies found.names found.winners =
     names_reported resolution needs.copies found given.found ∙ ap (λ (n : Needs). name_pieces n.copies found.names found.winners) (sym given.needed) in

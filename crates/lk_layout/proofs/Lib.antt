@@ -13,7 +13,6 @@ pub mod RowPlacesNoted
 pub mod PiecesInTurn
 pub mod PlacesReported
 pub mod NamesReported
-pub mod AddedOnce
 pub mod SectionsReported
 pub mod KeptReported
 pub mod LawfulReported

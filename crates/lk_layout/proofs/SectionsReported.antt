@@ -15,7 +15,7 @@ use Rattle.lk_model.specs.Views.{KeptPiece}
 use Rattle.lk_layout.specs.KeptIn.{kept_among, pieces_at, pieces_from, sections_in}
 use Rattle.lk_resolve.specs.declared.section_places.SectionPlace.{SectionPlace}
 use Rattle.lk_resolve.specs.Settling.{is_place_kept}
-use Rattle.lk_layout.proofs.AddedOnce.{Apart, HasSummary, HaveSummaries}
+use Rattle.lk_model.proofs.AddedOnce.{Apart, HasSummary, HaveSummaries}
 
 -- ---- one input
 

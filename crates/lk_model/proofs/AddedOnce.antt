@@ -1,11 +1,14 @@
--- An input of a command is added at most once, and as the command has it.
-use Rattle.std.proofs.Common.{◌≡◌, refl, ap, subst, ◌∙◌, arith, ℕ, zero, suc, ◌+◌, ◌<◌, ◌≤◌, ◌==◌, Bool, true, false, cond, List, [], ◌∷◌, ◌++◌, fold, length, map, Option, Some, None, slice_get}
+-- The law of adding that all layers share: an input of a command is added at most once, and as the command has it.
+-- What holds of each input with its number holds of each added one (`added_have`); no number is added twice, counted
+-- (`added_once`), pair by pair (`added_apart`) and as a list of numbers that differ (`added_distinct`).
+use Rattle.std.proofs.Common.{◌≡◌, ap, subst, ◌∙◌, arith, ℕ, zero, suc, ◌+◌, ◌<◌, ◌≤◌, ◌==◌, Bool, true, false, cond, List, [], ◌∷◌, ◌++◌, fold, length, map, nat_eq, Option, Some, None, option_map, slice_get, refl, sym, ◌⊎◌, inl, inr}
 use Rattle.std.proofs.lemmas.Bool.Decides.{nat_tests}
-use Rattle.std.specs.List.{AllByRecursion}
-use Rattle.lk_model.specs.Adding.{added_inputs, is_wanted_member, item_added, items_among, items_of, with_front, with_item, with_one}
+use Rattle.std.specs.List.{AllByRecursion, IsDistinct}
+use Rattle.lk_model.specs.Adding.{added_inputs, is_wanted_member, item_added, items_among, items_of, numbers_in, with_front, with_item, with_one}
 use Rattle.lk_model.specs.Numbered.{Numbered, numbered_from}
 use Rattle.lk_model.specs.Queues.{listed_within, next, turn}
 use Rattle.lk_model.specs.Views.{Input}
+use Rattle.lk_model.specs.declared.summaries.InputSummary.{InputSummary}
 
 -- how many items pass a test
 abbrev pub times : {M : Type 0} → (M → Bool) → List M → ℕ
@@ -172,18 +175,116 @@ added_once entry inputs k =
     let once : times (is_numbered k) (map (λ (row : ℕ × Numbered). row.1) (numbered_from 0 inputs)) ≤ 1 = numbers-once 0 k inputs in
     omega arith
 
+-- ---- so the numbers differ
+
+abbrev pub Apart : List Numbered → Type 0
+Apart [] = Unit {0}
+Apart (x ∷ xs) = AllByRecursion (λ (y : Numbered). (x.number == y.number) ≡ false) xs × Apart xs
+
+-- a number that is that of no item differs from each of them
+none_there : (n : ℕ) (xs : List Numbered) → times (is_numbered n) xs ≡ 0 → AllByRecursion (λ (y : Numbered). (n == y.number) ≡ false) xs
+none_there n [] e = tt
+none_there n (x ∷ xs) e = by (x.number == n) refl e (none_there n xs)
+  where
+    by :
+        (b : Bool)
+        → (x.number == n) ≡ b
+        → cond b 1 0 + times (is_numbered n) xs ≡ 0
+        → (times (is_numbered n) xs ≡ 0 → AllByRecursion (λ (y : Numbered). (n == y.number) ≡ false) xs)
+        → AllByRecursion (λ (y : Numbered). (n == y.number) ≡ false) (x ∷ xs)
+    by true same none later = absurd (omega (arith, none))
+    by false other none later = (grind (arith, nat_tests), later (omega (arith, none)))
+
+apart_from : (xs : List Numbered) → ((n : ℕ) → times (is_numbered n) xs ≤ 1) → Apart xs
+apart_from [] h = tt
+apart_from (x ∷ xs) h =
+    let here = h x.number in
+    let one : (x.number == x.number) ≡ true = grind (arith, nat_tests) in
+    let full : ◌≡◌ {A = ℕ} (cond (x.number == x.number) 1 0) 1 = ap (λ b. cond b 1 0) one in
+    (none_there x.number xs (omega (arith, here, full)), apart_from xs (λ n. (let all = h n in omega (arith, all))))
+
+pub added_apart : (entry : List ℕ) (inputs : List Input) → Apart (added_inputs entry inputs)
+added_apart entry inputs = apart_from (added_inputs entry inputs) (added_once entry inputs)
+
+-- the numbers of items that are apart differ
+others : (n : ℕ) (xs : List Numbered) → AllByRecursion (λ (y : Numbered). (n == y.number) ≡ false) xs → AllByRecursion (λ k. nat_eq n k ≡ false) (numbers_in xs)
+others n [] all = tt
+others n (x ∷ xs) all = (all.0, others n xs all.1)
+
+apart_distinct : (xs : List Numbered) → Apart xs → IsDistinct nat_eq (numbers_in xs)
+unfolding IsDistinct
+apart_distinct [] apart = tt
+apart_distinct (x ∷ xs) apart = (others x.number xs apart.0, apart_distinct xs apart.1)
+
+pub added_distinct : (entry : List ℕ) (inputs : List Input) → IsDistinct nat_eq (numbers_in (added_inputs entry inputs))
+added_distinct entry inputs = apart_distinct (added_inputs entry inputs) (added_apart entry inputs)
+
+-- ---- what holds of each input holds of each added one
+
+-- each input, with its number, has the property
+abbrev pub EachHas : (Numbered → Type 0) → ℕ → List Input → Type 0
+EachHas P n inputs = (m : ℕ) (x : Input) → slice_get inputs m ≡ Some x → P (record { number = n + m; summary = x.summary })
+
+numbered_have : (P : Numbered → Type 0) (n : ℕ) (inputs : List Input) → EachHas P n inputs → AllByRecursion (λ (row : ℕ × Numbered). P row.1) (numbered_from n inputs)
+numbered_have P n [] each = tt
+numbered_have P n (x ∷ xs) each =
+    let first : n + 0 ≡ n = omega arith in (
+      subst (λ (k : ℕ). P (record { number = k; summary = x.summary })) first (each 0 x refl),
+      numbered_have P (n + 1) xs
+          (λ m y there. let later : n + suc m ≡ n + 1 + m = omega arith in subst (λ (k : ℕ). P (record { number = k; summary = y.summary })) later (each (suc m) y there)),
+    )
+
+pub added_have : (P : Numbered → Type 0) (entry : List ℕ) (inputs : List Input) → EachHas P 0 inputs → AllByRecursion P (added_inputs entry inputs)
+unfolding added_inputs
+added_have P entry inputs each = added-all P entry [] (items_of inputs) tt (items-all P (numbered_from 0 inputs) (numbered_have P 0 inputs each))
+
+-- what holds of each summary
+abbrev pub Has : (InputSummary → Type 0) → Numbered → Type 0
+Has P x = P x.summary
+
+summaries_have : (P : InputSummary → Type 0) (n : ℕ) (inputs : List Input) → AllByRecursion (λ (x : Input). P x.summary) inputs → AllByRecursion (λ (row : ℕ × Numbered). Has P row.1) (numbered_from n inputs)
+summaries_have P n [] all = tt
+summaries_have P n (x ∷ xs) all = (all.0, summaries_have P (n + 1) xs all.1)
+
+pub added_inputs_have : (P : InputSummary → Type 0) (entry : List ℕ) (inputs : List Input) → AllByRecursion (λ (x : Input). P x.summary) inputs → AllByRecursion (Has P) (added_inputs entry inputs)
+unfolding added_inputs
+added_inputs_have P entry inputs all = added-all (Has P) entry [] (items_of inputs) tt (items-all (Has P) (numbered_from 0 inputs) (summaries_have P 0 inputs all))
+
+-- ---- the input of a number
+
 -- an input is in the command under its number, with its summary
 abbrev pub IsIn : List Input → Numbered → Type 0
 IsIn inputs x = (y : Input) × (slice_get inputs x.number ≡ Some y) × (y.summary ≡ x.summary)
 
-numbered-are_at : (inputs : List Input) (n : ℕ) (xs : List Input) → ((k : ℕ) → slice_get inputs (n + k) ≡ slice_get xs k) → AllByRecursion (λ (row : ℕ × Numbered). IsIn inputs row.1) (numbered_from n xs)
-numbered-are_at inputs n [] h = tt
-numbered-are_at inputs n (x ∷ xs) h = (
-  (x, ap (slice_get inputs) (let same : n ≡ n + 0 = omega arith in same) ∙ h 0, refl),
-  numbered-are_at inputs (n + 1) xs (λ k. ap (slice_get inputs) (let same : n + 1 + k ≡ n + suc k = omega arith in same) ∙ h (suc k)),
-)
-
 pub added_are_at : (entry : List ℕ) (inputs : List Input) → AllByRecursion (IsIn inputs) (added_inputs entry inputs)
-unfolding added_inputs
 added_are_at entry inputs =
-    added-all (IsIn inputs) entry [] (items_of inputs) tt (items-all (IsIn inputs) (numbered_from 0 inputs) (numbered-are_at inputs 0 inputs (λ k. ap (slice_get inputs) (let same : 0 + k ≡ k = omega arith in same))))
+    added_have (IsIn inputs) entry inputs (λ m x there. (let same : m ≡ 0 + m = omega arith in (x, subst (λ k. slice_get inputs k ≡ Some x) same there, refl)))
+
+-- the summary of an added input is the one with its number among those of all inputs
+abbrev pub HasSummary : List InputSummary → Numbered → Type 0
+HasSummary summaries x = slice_get summaries x.number ≡ Some x.summary
+
+abbrev pub HaveSummaries : List InputSummary → List Numbered → Type 0
+HaveSummaries summaries xs = AllByRecursion (HasSummary summaries) xs
+
+abbrev pub summary_of_input : Input → InputSummary
+summary_of_input x = x.summary
+
+summary_at : (inputs : List Input) (m : ℕ) (x : Input) → slice_get inputs m ≡ Some x → slice_get (map summary_of_input inputs) m ≡ Some x.summary
+summary_at [] m x there = absurd (cc)
+summary_at (y ∷ ys) zero x there = let same : y ≡ x = some_same y x there in ap (λ (z : Input). Some z.summary) same
+summary_at (y ∷ ys) (suc m) x there = summary_at ys m x there
+
+pub added_summaries : (entry : List ℕ) (inputs : List Input) → HaveSummaries (map summary_of_input inputs) (added_inputs entry inputs)
+added_summaries entry inputs =
+    added_have (HasSummary (map summary_of_input inputs)) entry inputs
+    (λ m x there. (let same : m ≡ 0 + m = omega arith in subst (λ k. slice_get (map summary_of_input inputs) k ≡ Some x.summary) same (summary_at inputs m x there)))
+
+-- or is none where there is no such input
+abbrev pub IsOf : List Input → Numbered → Type 0
+IsOf inputs m = option_map (λ (i : Input). i.summary) (slice_get inputs m.number) ≡ Some m.summary
+
+pub added_of : (entry : List ℕ) (inputs : List Input) → AllByRecursion (IsOf inputs) (added_inputs entry inputs)
+added_of entry inputs =
+    added_have (IsOf inputs) entry inputs
+    (λ m x there. (let same : m ≡ 0 + m = omega arith in ap (option_map (λ (i : Input). i.summary)) (subst (λ k. slice_get inputs k ≡ Some x) same there)))

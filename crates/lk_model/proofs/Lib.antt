@@ -21,3 +21,4 @@ pub mod HashTables
 pub mod DynamicLengths
 pub mod LimitsExceeded
 pub mod AddedOnce
+pub mod FileHeaderBack
