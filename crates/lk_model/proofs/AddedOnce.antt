@@ -1,7 +1,7 @@
 -- The law of adding that all layers share: an input of a command is added at most once, and as the command has it.
 -- What holds of each input with its number holds of each added one (`added_have`); no number is added twice, counted
 -- (`added_once`), pair by pair (`added_apart`) and as a list of numbers that differ (`added_distinct`).
-use Rattle.std.proofs.Common.{◌≡◌, ap, subst, ◌∙◌, arith, ℕ, zero, suc, ◌+◌, ◌<◌, ◌≤◌, ◌==◌, Bool, true, false, cond, List, [], ◌∷◌, ◌++◌, fold, length, map, nat_eq, Option, Some, None, option_map, slice_get, refl, sym, ◌⊎◌, inl, inr}
+use Rattle.std.proofs.Common.{◌≡◌, ap, subst, arith, ℕ, zero, suc, ◌+◌, ◌<◌, ◌≤◌, ◌==◌, Bool, true, false, cond, List, [], ◌∷◌, ◌++◌, fold, length, map, nat_eq, Option, Some, None, option_map, slice_get, refl}
 use Rattle.std.proofs.lemmas.Bool.Decides.{nat_tests}
 use Rattle.std.specs.List.{AllByRecursion, IsDistinct}
 use Rattle.lk_model.specs.Adding.{added_inputs, is_wanted_member, item_added, items_among, items_of, numbers_in, with_front, with_item, with_one}

@@ -1,7 +1,6 @@
 -- Numbers that many definitions use: sums modulo 2^64, multiples, powers of two.
-use Rattle.std.specs.Prelude.{◌≡◌, ℕ, ◌+◌, ◌-◌, ◌*◌, ◌/◌, ◌%◌, ◌^◌, ◌==◌, Bool, true, false, if◌then◌else◌, List, [], ◌∷◌, nat_lt, nat_le, ◌&&◌, ℤ}
+use Rattle.std.specs.Prelude.{ℕ, ◌+◌, ◌-◌, ◌*◌, ◌/◌, ◌%◌, ◌^◌, ◌==◌, Bool, List, [], ◌∷◌}
 use Rattle.std.specs.List.{list_any}
-use Rattle.lk_elf.specs.Fields.{unsigned64}
 
 -- a sum modulo 2^64
 abbrev pub plus : ℕ → ℕ → ℕ

@@ -1,6 +1,6 @@
 -- This project's own: which inputs of a link an update reads anew: those that changed since the earlier
 -- image was linked, and those whose part of the link did.
-use Rattle.std.specs.Prelude.{◌≡◌, ℕ, ◌==◌, ◌&&◌, ◌||◌, not, Bool, true, false, List, [], ◌++◌, map, filter, filter_map, find, Option, Some, None, is_some, option_map, option_and_then, slice_get, nat_lt}
+use Rattle.std.specs.Prelude.{◌≡◌, ℕ, ◌==◌, ◌&&◌, ◌||◌, not, Bool, true, false, List, [], ◌++◌, map, filter, filter_map, find, Option, Some, None, is_some, option_map, option_and_then, slice_get}
 use Rattle.std.specs.Bool.{OnFalse}
 use Rattle.std.specs.Cmp.Lexicographic.{pointwise}
 use Rattle.std.specs.List.{AllByRecursion, enumerate_from, list_any, list_all}

@@ -1,6 +1,6 @@
 -- The first bytes of an image (gABI "ELF Header", "Program Header"): the file header and the program
 -- headers after it.
-use Rattle.std.specs.Prelude.{ℕ, ◌+◌, Bool, false, List, [], ◌∷◌, ◌++◌, length, replicate, Option, Some, None, slice_get, position}
+use Rattle.std.specs.Prelude.{ℕ, ◌+◌, Bool, false, List, ◌∷◌, ◌++◌, length, replicate, Some, None, slice_get, position}
 use Rattle.std.specs.List.{list_any, flat_map}
 use Rattle.std.specs.Str.{bytes_eq}
 use Rattle.lk_elf.specs.declared.file_header.Ehdr.{Ehdr}
@@ -8,8 +8,8 @@ use Rattle.lk_elf.specs.Numbers.{et_exec, em_x86_64}
 use Rattle.lk_elf.specs.Records.{ehdr_bytes, phdr_bytes}
 use Rattle.lk_model.specs.Segments.{program_headers}
 use Rattle.lk_model.specs.SymbolValues.{name_value}
-use Rattle.lk_model.specs.Tail.{Part, tail_parts, headers_offset, section_headers}
-use Rattle.lk_model.specs.Views.{Resolved, Input}
+use Rattle.lk_model.specs.Tail.{Part, headers_offset}
+use Rattle.lk_model.specs.Views.{Resolved}
 use Rattle.lk_model.specs.declared.layouts.Placement.{Placement}
 use Rattle.lk_model.specs.declared.summaries.Contributions.{Contributions}
 

@@ -1,7 +1,7 @@
 -- This project's own: what a link is beside its addresses: which pieces are together in an output
 -- section, what each name means, and what a dynamic linker is given. All links of one command and its
 -- files have the same view, however they were made: it is read from the image alone.
-use Rattle.std.specs.Prelude.{◌≡◌, ℕ, Bool, List, [], map, drop, filter, filter_map, zip, find, Option, Some, None, option_map, Ok, Err, slice_get}
+use Rattle.std.specs.Prelude.{◌≡◌, ℕ, Bool, List, map, drop, filter, filter_map, zip, find, Option, Some, None, option_map, Ok, Err, slice_get}
 use Rattle.std.specs.Str.{bytes_eq}
 use Rattle.lk_model.specs.Bases.{records_of_image}
 use Rattle.lk_model.specs.Checks.{is_some_with}

@@ -1,18 +1,17 @@
 -- An image as a whole (this project's own; gABI "Object Files"): the headers, the seal, what is in
 -- the rooms of the output sections, the tail, and the section headers, which end it.
-use Rattle.std.specs.Prelude.{ℕ, ◌+◌, ◌-◌, ◌==◌, Bool, true, false, List, [], ◌∷◌, ◌++◌, length, map, filter, filter_map, Option, Some, None, if◌then◌else◌, codes, replicate, nat_le, nat_lt, length, fold}
-use Rattle.std.specs.List.{flat_map, enumerate_from, zip, filter_map}
+use Rattle.std.specs.Prelude.{ℕ, ◌+◌, ◌-◌, ◌==◌, Bool, List, [], ◌∷◌, ◌++◌, length, map, filter, if◌then◌else◌, codes, replicate, nat_le, nat_lt, length, fold}
+use Rattle.std.specs.List.{flat_map, enumerate_from, zip}
 use Rattle.lk_elf.specs.Records.{shdr_bytes}
 use Rattle.lk_model.specs.FileHeader.{header_bytes}
 use Rattle.lk_model.specs.Holes.{holes_of, hole_bytes}
-use Rattle.lk_model.specs.SectionKeys.{named, same_key, in_file, eh_frame, is_table}
+use Rattle.lk_model.specs.SectionKeys.{same_key, in_file, eh_frame, is_table}
 use Rattle.lk_model.specs.LinkedBytes.{linked_bytes}
 use Rattle.lk_model.specs.Stretches.{Stretch, laid_out}
 use Rattle.lk_model.specs.Tables.{table_of_key}
 use Rattle.lk_model.specs.Tail.{Part, PlacedPart, tail_parts, parts_from, headers_offset, section_headers}
 use Rattle.lk_model.specs.FullPlace.{tail_start}
 use Rattle.lk_model.specs.Views.{Resolved, KeptPiece}
-use Rattle.lk_model.specs.declared.layouts.Class.TheVariants.{R}
 use Rattle.lk_model.specs.declared.layouts.Hole.{Hole}
 use Rattle.lk_model.specs.declared.layouts.PieceRow.{PieceRow}
 use Rattle.lk_model.specs.declared.layouts.Placement.{Placement}

@@ -1,6 +1,5 @@
 -- This project's own: what is known of an input before and after its file is read: its name, and what a link
 -- keeps of it.
-use Rattle.std.specs.Prelude.{List}
 use Rattle.lk_model.specs.declared.input_names.InputName.{InputName}
 use Rattle.lk_model.specs.declared.summaries.InputSummary.{InputSummary}
 use Rattle.lk_model.specs.Views.{Input}

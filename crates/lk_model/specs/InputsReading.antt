@@ -1,28 +1,24 @@
 -- The reading of `.gnu_incremental_inputs` (this project's own): its head, its output sections, its
 -- inputs, each with its pieces, symbols and groups. Texts are looked up in the section of texts.
-use Rattle.std.specs.Prelude.{ℕ, zero, suc, not, ◌+◌, ◌-◌, ◌*◌, ◌/◌, ◌%◌, ◌==◌, ◌&&◌, ◌||◌, Bool, true, false, List, [], ◌∷◌, ◌++◌, length, map, Option, Some, None, option_map, Result, Ok, Err, nat_lt, nat_le, if◌then◌else◌, slice_get}
-use Rattle.std.specs.List.{flat_map}
+use Rattle.std.specs.Prelude.{ℕ, zero, suc, not, ◌+◌, ◌-◌, ◌/◌, ◌%◌, ◌==◌, ◌&&◌, ◌||◌, Bool, true, false, List, [], ◌∷◌, length, map, Option, Some, None, option_map, Result, Ok, Err, nat_lt, nat_le, if◌then◌else◌, slice_get}
 use Rattle.lk_elf.specs.Fields.{num, signed64}
 use Rattle.lk_report.specs.declared.causes.OptionRecord.{OptionRecord}
 use Rattle.lk_report.specs.declared.stamps.Stamp.{Stamp}
 use Rattle.lk_model.specs.InputsSection.{no_section}
 use Rattle.lk_model.specs.Pieces.{output_name}
-use Rattle.lk_model.specs.RecordForms.{Form, Values, Given, given_then, given_row, read_record, read_many}
+use Rattle.lk_model.specs.RecordForms.{Form, Values, Given, given_then, read_record, read_many}
 use Rattle.lk_model.specs.RecordForms.Form.{Num32, Num64, Text32}
 use Rattle.lk_model.specs.Texts.{text_at}
 use Rattle.lk_model.specs.declared.layouts.Class.{Class}
 use Rattle.lk_model.specs.declared.layouts.Class.TheVariants.{R, X, W, WX, Tdata, Tbss, Bss, N}
 use Rattle.lk_model.specs.declared.layouts.PieceId.TheVariants as id
 use Rattle.lk_model.specs.declared.layouts.PieceRow.{PieceRow}
-use Rattle.lk_model.specs.declared.layouts.SectionKey.{SectionKey}
 use Rattle.lk_model.specs.declared.layouts.SectionRow.{SectionRow}
 use Rattle.lk_model.specs.declared.records.InputRecord.{InputRecord}
 use Rattle.lk_model.specs.declared.summaries.Global.{Global}
 use Rattle.lk_model.specs.declared.summaries.Group.{Group}
 use Rattle.lk_model.specs.declared.summaries.Home.{Home}
 use Rattle.lk_model.specs.declared.summaries.Home.TheVariants as home
-use Rattle.lk_model.specs.declared.summaries.InputSummary.{InputSummary}
-use Rattle.lk_model.specs.declared.summaries.Kind.{Kind}
 use Rattle.lk_model.specs.declared.summaries.Kind.TheVariants as kind
 use Rattle.lk_model.specs.declared.summaries.PieceInfo.{PieceInfo}
 

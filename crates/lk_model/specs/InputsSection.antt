@@ -1,6 +1,6 @@
 -- The fields of `.gnu_incremental_inputs` (this project's own): a head, the output sections that the
 -- tail does not hold, and the inputs with their pieces, symbols and groups.
-use Rattle.std.specs.Prelude.{ℕ, ◌+◌, ◌*◌, Bool, true, false, List, [], ◌∷◌, ◌++◌, length, map, Option, Some, None, find, ◌==◌, if◌then◌else◌}
+use Rattle.std.specs.Prelude.{ℕ, ◌+◌, ◌*◌, Bool, true, false, List, [], ◌∷◌, ◌++◌, length, map, Option, Some, None, ◌==◌, if◌then◌else◌}
 use Rattle.std.specs.List.{flat_map, enumerate_from}
 use Rattle.lk_elf.specs.Fields.{unsigned64}
 use Rattle.lk_report.specs.declared.causes.OptionRecord.{OptionRecord}
@@ -19,7 +19,6 @@ use Rattle.lk_model.specs.declared.summaries.Global.{Global}
 use Rattle.lk_model.specs.declared.summaries.Group.{Group}
 use Rattle.lk_model.specs.declared.summaries.Home.{Home}
 use Rattle.lk_model.specs.declared.summaries.Home.TheVariants as home
-use Rattle.lk_model.specs.declared.summaries.Kind.{Kind}
 use Rattle.lk_model.specs.declared.summaries.Kind.TheVariants as kind
 use Rattle.lk_model.specs.declared.summaries.PieceInfo.{PieceInfo}
 

@@ -3,7 +3,6 @@
 -- "Symbol Table", SHN_COMMON) and the copies of imported objects (psABI, R_X86_64_COPY).
 use Rattle.std.specs.Prelude.{ℕ, ◌%◌, ◌==◌, ◌&&◌, Bool, true, false, cond, List, [], ◌∷◌, map, flat_map, filter, filter_map, zip, codes, Option, Some, None, option_map}
 use Rattle.std.specs.List.{enumerate_from}
-use Rattle.lk_model.specs.declared.layouts.Class.{Class}
 use Rattle.lk_model.specs.declared.layouts.Class.TheVariants as class
 use Rattle.lk_model.specs.declared.layouts.PieceId.TheVariants as piece
 use Rattle.lk_model.specs.declared.layouts.SectionKey.{SectionKey}

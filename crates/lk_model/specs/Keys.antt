@@ -1,6 +1,5 @@
 -- How keys and pieces are distinguished and looked up in a placement (this project's own).
-use Rattle.std.specs.Prelude.{ℕ, ◌+◌, ◌-◌, ◌==◌, Bool, true, false, ◌&&◌, nat_eq, List, [], ◌∷◌, Option, Some, None, find, position, option_map}
-use Rattle.std.specs.Str.{bytes_eq}
+use Rattle.std.specs.Prelude.{ℕ, ◌==◌, Bool, true, false, ◌&&◌, Option, Some, None, find, position}
 use Rattle.lk_model.specs.SectionKeys.{same_key}
 use Rattle.lk_model.specs.declared.layouts.GotKey.{GotKey}
 use Rattle.lk_model.specs.declared.layouts.GotOwner.{GotOwner}

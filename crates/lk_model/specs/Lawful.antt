@@ -11,8 +11,6 @@ use Rattle.lk_model.specs.Keys.{same_got, is_slot_of}
 use Rattle.lk_model.specs.Views.{KeptPiece, Resolved}
 use Rattle.lk_model.specs.declared.layouts.Class.TheVariants.{Tbss}
 use Rattle.lk_model.specs.declared.layouts.GotKey.{GotKey}
-use Rattle.lk_model.specs.declared.layouts.GotOwner.{GotOwner}
-use Rattle.lk_model.specs.declared.layouts.GotOwner.TheVariants as owner
 use Rattle.lk_model.specs.declared.layouts.Hole.{Hole}
 use Rattle.lk_model.specs.declared.layouts.PieceId.{PieceId}
 use Rattle.lk_model.specs.declared.layouts.PieceRow.{PieceRow}

@@ -1,12 +1,11 @@
 -- The linked bytes of a piece: its input's bytes with each field replaced (gABI "Relocation"; psABI
 -- x86-64 "Relocation Types").
-use Rattle.std.specs.Prelude.{ℕ, ◌+◌, ◌==◌, Bool, true, false, ◌&&◌, List, [], ◌++◌, length, take, drop, filter, fold, Option, Some, None, slice_get}
+use Rattle.std.specs.Prelude.{ℕ, ◌+◌, ◌==◌, Bool, true, false, ◌&&◌, List, [], ◌++◌, length, take, drop, filter, fold, Some, None, slice_get}
 use Rattle.lk_elf.specs.Fields.{bytes_of}
 use Rattle.lk_model.specs.Objects.{piece_bytes_in}
 use Rattle.lk_model.specs.RelocationTypes.{width_of}
 use Rattle.lk_model.specs.SymbolValues.{reference_value}
-use Rattle.lk_model.specs.Views.{Resolved, Ref, KeptPiece, Input}
-use Rattle.lk_model.specs.declared.layouts.PieceId.{PieceId}
+use Rattle.lk_model.specs.Views.{Resolved, Ref, KeptPiece}
 use Rattle.lk_model.specs.declared.layouts.PieceId.TheVariants as id
 use Rattle.lk_model.specs.declared.layouts.Placement.{Placement}
 

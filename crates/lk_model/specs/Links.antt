@@ -1,7 +1,7 @@
 -- What it means that an image is a link of a command (this project's own, over gABI "Program Loading"
 -- and psABI x86-64 "Relocation Types"): the statement that the linker's public calls are proved to meet.
-use Rattle.std.specs.Prelude.{◌≡◌, ◌≤◌, ℕ, ◌+◌, Bool, true, false, List, [], ◌∷◌, length, Option, Some, None, IsTrue, if◌then◌else◌, ◌==◌}
-use Rattle.std.specs.List.{list_any, list_all, zip}
+use Rattle.std.specs.Prelude.{◌≡◌, ◌≤◌, ℕ, ◌+◌, Bool, List, [], ◌∷◌, Option, Some, None, IsTrue, if◌then◌else◌, ◌==◌}
+use Rattle.std.specs.List.{list_any, list_all}
 use Rattle.lk_elf.specs.declared.program_header.Phdr.{Phdr}
 use Rattle.lk_report.specs.FileMap.{FileMap}
 use Rattle.lk_model.specs.FullPlace.{full_place}

@@ -1,7 +1,7 @@
 -- What a loader makes of an image (gABI "Program Loading"): each LOAD header maps a range of the file
 -- to addresses with its rights; the bytes of its memory past its file range are zeros. What a
 -- loader refuses, and what DYNAMIC names, is reported in Loads.
-use Rattle.std.specs.Prelude.{◌≡◌, ℕ, ◌+◌, ◌-◌, ◌*◌, ◌<◌, ◌==◌, ◌&&◌, Bool, List, length, map, find, nat_le, nat_lt, Option, Some, None, option_map, slice_get, slice_index, if◌then◌else◌}
+use Rattle.std.specs.Prelude.{◌≡◌, ℕ, ◌+◌, ◌-◌, ◌*◌, ◌<◌, ◌==◌, ◌&&◌, Bool, List, length, map, find, nat_le, nat_lt, Option, Some, option_map, slice_index, if◌then◌else◌}
 use Rattle.std.specs.List.{range_with_len}
 use Rattle.lk_elf.specs.declared.program_header.Phdr.{Phdr}
 use Rattle.lk_elf.specs.Fields.{num}

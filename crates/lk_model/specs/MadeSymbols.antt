@@ -1,5 +1,5 @@
 -- The values of the symbols that the linker makes (this project's own; names as GNU linkers give them).
-use Rattle.std.specs.Prelude.{ℕ, ◌+◌, Bool, true, false, ◌&&◌, not, List, [], ◌∷◌, ◌++◌, Option, Some, None, find, drop, length, if◌then◌else◌, codes, ◌==◌, nat_eq}
+use Rattle.std.specs.Prelude.{ℕ, ◌+◌, ◌&&◌, not, List, [], ◌∷◌, Option, Some, None, find, drop, if◌then◌else◌, codes, ◌==◌, nat_eq}
 use Rattle.std.specs.List.{list_any, starts_with}
 use Rattle.std.specs.Str.{bytes_eq}
 use Rattle.lk_model.specs.Keys.{row_of}
@@ -8,7 +8,6 @@ use Rattle.lk_model.specs.Segments.{second_segment_end, third_segment_end}
 use Rattle.lk_model.specs.Views.{Resolved, KeptPiece}
 use Rattle.lk_model.specs.declared.layouts.Class.TheVariants.{W, Bss, N}
 use Rattle.lk_model.specs.declared.layouts.Placement.{Placement}
-use Rattle.lk_model.specs.declared.layouts.SectionKey.{SectionKey}
 use Rattle.lk_model.specs.declared.layouts.SectionRow.{SectionRow}
 
 -- a made symbol with its value

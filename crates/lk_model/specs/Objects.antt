@@ -1,6 +1,6 @@
 -- What an object holds (gABI "Symbol Table", "Relocation", "Section Groups"): the pieces, symbols and
 -- groups of its summary, its LOCAL symbols, the bytes and the relocations of its sections.
-use Rattle.std.specs.Prelude.{ℕ, zero, suc, ◌+◌, ◌*◌, ◌/◌, ◌%◌, ◌^◌, ◌==◌, Bool, true, false, not, ◌&&◌, if◌then◌else◌, List, [], ◌∷◌, map, filter, flat_map, filter_map, length, take, drop, slice_get, codes, bytes_eq, Option, Some, None, unwrap_or, option_map, option_to_list, option_and_then, is_some}
+use Rattle.std.specs.Prelude.{ℕ, zero, suc, ◌+◌, ◌*◌, ◌/◌, ◌%◌, ◌==◌, Bool, true, false, not, ◌&&◌, if◌then◌else◌, List, [], ◌∷◌, map, filter, flat_map, filter_map, length, take, drop, slice_get, codes, bytes_eq, Option, Some, None, unwrap_or, option_map, option_to_list, option_and_then, is_some}
 use Rattle.std.specs.List.{list_any, range_with_len, enumerate_from}
 use Rattle.lk_elf.specs.Fields.{num}
 use Rattle.lk_elf.specs.Numbers.{sht_rela, sht_nobits, sht_group, shf_execinstr, stb_local, stt_notype, shn_undef, shn_abs, shn_common, rela_size}

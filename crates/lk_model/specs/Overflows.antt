@@ -1,12 +1,11 @@
 -- The references whose values do not fit their fields (psABI x86-64, "Relocation Types"), in adding
 -- order, by section and entry.
-use Rattle.std.specs.Prelude.{ℕ, Bool, List, [], Option, Some, None, slice_get, if◌then◌else◌}
+use Rattle.std.specs.Prelude.{ℕ, List, [], Option, Some, None, slice_get, if◌then◌else◌}
 use Rattle.std.specs.List.{filter_map}
 use Rattle.lk_report.specs.declared.faults.Fault.{Fault}
 use Rattle.lk_report.specs.declared.faults.Fault.TheVariants as fault
 use Rattle.lk_model.specs.SymbolValues.{numbers_of, reference_value, reference_fits}
-use Rattle.lk_model.specs.Views.{Resolved, Ref, Input}
-use Rattle.lk_model.specs.declared.layouts.Numbers.{Numbers}
+use Rattle.lk_model.specs.Views.{Resolved, Ref}
 use Rattle.lk_model.specs.declared.layouts.Placement.{Placement}
 
 -- the path of an input, by its number

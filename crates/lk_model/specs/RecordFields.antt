@@ -1,6 +1,6 @@
 -- The spelling of records as fields (this project's own): numbers of four and of eight bytes, and
 -- texts by their offset in the table of texts.
-use Rattle.std.specs.Prelude.{ℕ, List, [], ◌∷◌, ◌++◌, Option, Some, None}
+use Rattle.std.specs.Prelude.{ℕ, List, Option, Some, None}
 use Rattle.std.specs.List.{flat_map, filter_map}
 use Rattle.lk_elf.specs.Fields.{bytes_of}
 

@@ -1,7 +1,7 @@
 -- The forms of records and their reading (this project's own). A record is a list of forms; its raw
 -- numbers are read first and its texts are resolved at its end. An error is the number of bytes that
 -- are left at the bad record; the top makes offsets of it.
-use Rattle.std.specs.Prelude.{ℕ, zero, suc, ◌+◌, Bool, true, false, List, [], ◌∷◌, length, take, drop, Option, Some, None, option_map, Result, Ok, Err, nat_le, if◌then◌else◌}
+use Rattle.std.specs.Prelude.{ℕ, zero, suc, ◌+◌, List, [], ◌∷◌, length, take, drop, Option, Some, None, option_map, Result, Ok, Err, nat_le, if◌then◌else◌}
 use Rattle.std.specs.Option.{option_and_then}
 use Rattle.lk_elf.specs.Fields.{number_of}
 

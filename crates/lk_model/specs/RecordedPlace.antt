@@ -2,7 +2,7 @@
 -- address of each piece of an added input, as its record sections are read. What the two record
 -- sections of the first form do not hold, the places of commons and copies and the GOT and PLT slots,
 -- is that of the full placement.
-use Rattle.std.specs.Prelude.{ℕ, ◌+◌, ◌==◌, Bool, true, false, List, [], ◌∷◌, ◌++◌, length, map, filter, fold, take, drop, Option, Some, None, option_map, slice_get, codes, if◌then◌else◌}
+use Rattle.std.specs.Prelude.{ℕ, ◌==◌, Bool, true, false, List, [], ◌∷◌, ◌++◌, map, filter, fold, Option, Some, None, slice_get, codes, if◌then◌else◌}
 use Rattle.std.specs.List.{flat_map, enumerate_from}
 use Rattle.std.specs.Result.{result_ok}
 use Rattle.std.specs.Str.{bytes_eq}
@@ -14,7 +14,6 @@ use Rattle.lk_model.specs.FullPlace.{full_place}
 use Rattle.lk_model.specs.InputsReading.{ReadInputs, ReadInput, inputs_read, with_value}
 use Rattle.lk_model.specs.Numbered.{Numbered}
 use Rattle.lk_model.specs.Views.{Resolved, Elf}
-use Rattle.lk_model.specs.declared.layouts.PieceId.{PieceId}
 use Rattle.lk_model.specs.declared.layouts.PieceId.TheVariants as id
 use Rattle.lk_model.specs.declared.layouts.PieceRow.{PieceRow}
 use Rattle.lk_model.specs.declared.layouts.Placement.{Placement}

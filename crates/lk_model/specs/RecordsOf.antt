@@ -1,6 +1,6 @@
 -- What an image records of its link (this project's own): all inputs, those not added too, each name
 -- with its winner, each reference that is not through a LOCAL symbol, and the placement.
-use Rattle.std.specs.Prelude.{ℕ, ◌+◌, ◌==◌, Bool, true, false, List, [], ◌∷◌, map, zip, Option, Some, None, filter_map}
+use Rattle.std.specs.Prelude.{ℕ, ◌==◌, List, map, zip, Option, Some, None, filter_map}
 use Rattle.std.specs.List.{list_any, enumerate_from, zip, filter_map}
 use Rattle.lk_model.specs.Views.{Resolved, Ref, Through, Input}
 use Rattle.lk_model.specs.Views.Through.{ByName, ByLocal}

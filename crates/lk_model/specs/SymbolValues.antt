@@ -1,17 +1,14 @@
 -- The values of symbols at a placement, and the numbers of a reference (gABI "Symbol Table",
 -- "Relocation"; psABI x86-64 "Relocation Types", "Thread-Local Storage").
-use Rattle.std.specs.Prelude.{ℕ, ◌+◌, ◌-◌, ◌*◌, ◌==◌, Bool, true, false, ◌&&◌, ◌||◌, List, [], ◌∷◌, Option, Some, None, find, slice_get, option_map, unwrap_or, if◌then◌else◌, codes}
-use Rattle.std.specs.List.{list_any}
+use Rattle.std.specs.Prelude.{ℕ, ◌+◌, ◌*◌, ◌==◌, Bool, true, false, List, [], Option, Some, None, find, slice_get, option_map, unwrap_or, if◌then◌else◌, codes}
 use Rattle.lk_model.specs.Amounts.{plus, minus}
 use Rattle.lk_model.specs.Keys.{row_of, piece_row_of, slot_number, plt_number}
 use Rattle.lk_model.specs.SectionKeys.{named}
 use Rattle.lk_model.specs.MadeSymbols.{made_value}
 use Rattle.lk_model.specs.Objects.{local_in}
-use Rattle.lk_model.specs.RelocationTypes.{Formula, RelocationType, relocation_type_of}
-use Rattle.lk_model.specs.RelocationTypes.Formula.{DtpOffset, TpOffset}
 use Rattle.lk_model.specs.Segments.{tls_start, tls_end}
 use Rattle.lk_model.specs.Values.{value_of, fits}
-use Rattle.lk_model.specs.Views.{Resolved, Ref, Through, Input}
+use Rattle.lk_model.specs.Views.{Resolved, Ref, Through}
 use Rattle.lk_model.specs.Views.Through.{ByName, ByLocal}
 use Rattle.lk_model.specs.declared.layouts.Class.TheVariants.{W, X}
 use Rattle.lk_model.specs.declared.layouts.GotKey.{GotKey}
@@ -21,7 +18,6 @@ use Rattle.lk_model.specs.declared.layouts.Numbers.{Numbers}
 use Rattle.lk_model.specs.declared.layouts.PieceId.{PieceId}
 use Rattle.lk_model.specs.declared.layouts.PieceId.TheVariants as id
 use Rattle.lk_model.specs.declared.layouts.Placement.{Placement}
-use Rattle.lk_model.specs.declared.summaries.Contributions.{Contributions}
 use Rattle.lk_model.specs.declared.summaries.Global.{Global}
 use Rattle.lk_model.specs.declared.summaries.Home.{Home}
 use Rattle.lk_model.specs.declared.summaries.Home.TheVariants as home

@@ -1,6 +1,6 @@
 -- The tables that a link generates inside its output sections (psABI x86-64 "Global Offset Table",
 -- "Procedure Linkage Table"), entry by entry: the GOT's two, and those of a dynamic link.
-use Rattle.std.specs.Prelude.{ℕ, ◌+◌, List, [], ◌++◌, Option, Some, None, if◌then◌else◌, codes}
+use Rattle.std.specs.Prelude.{ℕ, ◌+◌, List, ◌++◌, Option, Some, None, if◌then◌else◌, codes}
 use Rattle.std.specs.List.{enumerate_from, flat_map}
 use Rattle.lk_elf.specs.Fields.{bytes_of}
 use Rattle.lk_model.specs.DynamicKeys.{plt_key}

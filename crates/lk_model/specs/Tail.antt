@@ -1,8 +1,8 @@
 -- The tail of an image (this project's own; gABI "Sections" for the headers): the parts after the
 -- last byte of the loaded part and of class N, each at the next multiple of 8, then the section
 -- headers. This is its first form: of the record sections it has the inputs and the texts.
-use Rattle.std.specs.Prelude.{ℕ, ◌+◌, ◌==◌, Bool, true, false, List, [], ◌∷◌, ◌++◌, length, map, Option, Some, None, position, if◌then◌else◌, codes, get_or, find, option_map, unwrap_or}
-use Rattle.std.specs.List.{list_any, flat_map}
+use Rattle.std.specs.Prelude.{ℕ, ◌+◌, Bool, List, [], ◌∷◌, ◌++◌, length, map, Some, None, position, if◌then◌else◌, codes, find, option_map, unwrap_or}
+use Rattle.std.specs.List.{list_any}
 use Rattle.std.specs.Str.{bytes_eq}
 use Rattle.lk_elf.specs.declared.section_header.Shdr.{Shdr}
 use Rattle.lk_elf.specs.Numbers.{sht_null, sht_progbits, sht_symtab, sht_strtab, sym_size, rela_size, dyn_size}

@@ -1,6 +1,6 @@
 -- Tables of texts, as string sections are (gABI "String Table"): each text ends with a zero, offset 0
 -- is the empty text, and each distinct text is once in order of first use.
-use Rattle.std.specs.Prelude.{ℕ, ◌+◌, Bool, true, false, List, [], ◌∷◌, ◌++◌, length, fold, take, drop, Option, Some, None, nat_eq, nat_lt, if◌then◌else◌, ◌==◌, position, slice_index, ◌-◌, ◌||◌}
+use Rattle.std.specs.Prelude.{ℕ, ◌+◌, Bool, List, [], ◌∷◌, ◌++◌, length, fold, take, drop, Option, Some, None, nat_lt, if◌then◌else◌, ◌==◌, position, slice_index, ◌-◌, ◌||◌}
 use Rattle.std.specs.List.{list_any, flat_map}
 use Rattle.std.specs.Str.{bytes_eq}
 

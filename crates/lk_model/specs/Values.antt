@@ -1,9 +1,9 @@
 -- The value of a relocation and whether it fits its field (psABI x86-64, "Relocation Types"). Values
 -- are whole numbers modulo 2^64.
-use Rattle.std.specs.Prelude.{ℕ, zero, suc, ◌+◌, ◌-◌, ◌*◌, ◌^◌, Bool, true, false, nat_lt, nat_le, ◌||◌, Option, Some, None}
+use Rattle.std.specs.Prelude.{ℕ, ◌-◌, ◌*◌, ◌^◌, Bool, true, nat_lt, nat_le, ◌||◌, Some, None}
 use Rattle.lk_elf.specs.Fields.{unsigned64}
 use Rattle.lk_model.specs.Amounts.{plus, minus}
-use Rattle.lk_model.specs.RelocationTypes.{Formula, RangeTest, RelocationType, relocation_type_of}
+use Rattle.lk_model.specs.RelocationTypes.{Formula, RangeTest, relocation_type_of}
 use Rattle.lk_model.specs.RelocationTypes.Formula.{NoValue, Absolute, Relative, PltRelative, SlotRelative, DtpOffset, TpOffset, GotOffset, GotRelative, SymbolSize}
 use Rattle.lk_model.specs.RelocationTypes.RangeTest.{AnyValue, ZeroExtended, SignExtended, EitherExtended}
 use Rattle.lk_model.specs.declared.layouts.Numbers.{Numbers}
