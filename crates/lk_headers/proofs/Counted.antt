@@ -69,7 +69,7 @@ in_groups place exec_stack =
     regrouped (first_load place ∷ second_load place (segment_rows Second place)) (third_load place)
     (shown_headers shown.Dynamic place.sections) (shown_headers shown.Note place.sections) (tls_header (tls_segment place)) (stack_header exec_stack ∷ [])
 
--- the header that shows the headers is where there is another that names an interpreter
+-- the header that describes the headers is there exactly where a section is the path of the interpreter
 table_at : (interps : List Phdr) (n m : ℕ) → n ≡ m → table_header interps n ≡ table_header interps m
 table_at interps n m e = ap (table_header interps) e
 

@@ -4,6 +4,5 @@ pub mod Counted
 pub mod PutInTurn
 pub mod TailEnds
 pub mod FrontLengths
-pub mod NameTables
 pub mod SectionsPut
 pub mod ModelRows

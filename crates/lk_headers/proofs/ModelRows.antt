@@ -1,4 +1,4 @@
--- The rows of the parts of a tail say what the parts say.
+-- The rows of the parts of a tail have the names and lengths of the parts.
 use Rattle.std.proofs.Common.{◌≡◌, ℕ, suc, ◌+◌, List, [], ◌∷◌, ◌++◌, Option, None, Some, refl, ap, ◌∙◌, length, map}
 use Rattle.std.specs.Prelude.{codes, cond, if◌then◌else◌, nat_lt, not}
 use Rattle.std.specs.List.{flat_map, position_or_len}

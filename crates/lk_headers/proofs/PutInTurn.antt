@@ -23,7 +23,7 @@ append_none xs = grind (arith, common_steps)
 one : (bytes : List ℕ) (h : Phdr) → bytes ≡ phdr_bytes h → bytes ≡ flat_map phdr_bytes (h ∷ [])
 one bytes h e = e ∙ append_none (phdr_bytes h)
 
--- the header that shows the headers
+-- the header that describes the headers
 table_here : (interps : List Phdr) (count : ℕ) → 0 < length interps → 0 < count → table_header interps (count - 1) ≡ table_phdr count ∷ []
 table_here [] count h k = absurd (omega arith)
 table_here (i ∷ is) count h k = let e : count - 1 + 1 ≡ count = omega arith in rw e refl

@@ -1,4 +1,4 @@
--- What is before the seal of an image (gABI "ELF Header", "Program Header"), by the rows of its
+-- The bytes before the seal of an image (gABI "ELF Header", "Program Header"), by the rows of its
 -- sections and of its tail's parts and by the value of its entry: the file header, the program headers,
 -- and zeros up to the seal.
 use Rattle.std.specs.Prelude.{◌≡◌, ℕ, ◌+◌, ◌-◌, ◌≤◌, ◌<◌, Bool, List, ◌++◌, length, replicate, Result, Ok, Err}
@@ -48,7 +48,7 @@ up_to_seal bytes = bytes ++ replicate (seal_offset - length bytes) 0
 abbrev pub most_headers : ℕ
 most_headers = 64
 
--- what is answered for the front of an image: its bytes; or, exactly where there are too many program
+-- the answer for the front of an image: its bytes; or, exactly where there are too many program
 -- headers, the limit with their whole number. Out of memory may come at any time.
 abbrev pub FrontGives : Placement → List SectionRow → ℕ → Bool → Result (List ℕ) LayoutFault → Type 0
 FrontGives place tail entry exec_stack (Ok bytes) =

@@ -1,5 +1,5 @@
--- What the headers over rows have to do with lk_model's, which are over the parts of a tail with their
--- bytes and over what resolution found.
+-- That the headers over rows are lk_model's, which are over the parts of a tail with their bytes and over
+-- the resolved inputs.
 use Rattle.std.specs.Prelude.{◌≡◌, List}
 use Rattle.std.specs.List.{flat_map}
 use Rattle.lk_elf.specs.Records.{shdr_bytes}

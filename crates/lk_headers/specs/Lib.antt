@@ -5,7 +5,6 @@ pub mod ProgramHeaders
 pub mod TailRows
 pub mod Front
 pub mod Counts
-pub mod NameTables
 pub mod SectionKinds
 pub mod SectionTable
 pub mod HeaderLaws

@@ -1,4 +1,4 @@
--- The types of sections that their key says (gABI "Sections", "Special Sections").
+-- The `sh_type` of sections by their key (gABI "Sections", "Special Sections").
 use Rattle.std.specs.Prelude.{ℕ, List, [], ◌∷◌, codes, find, option_map, unwrap_or}
 use Rattle.lk_elf.specs.Numbers.{sht_dynamic, sht_dynsym, sht_hash, sht_progbits, sht_rela, sht_strtab}
 use Rattle.lk_model.specs.SectionKeys.{named, same_key}

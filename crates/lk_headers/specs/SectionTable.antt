@@ -28,11 +28,11 @@ links_of place tail = record {
   tail_texts = tail_number place tail (codes ".strtab");
 }
 
--- the section that the entries of a section name things in
+-- the section that a section links to
 abbrev pub linked : Links → SectionKey → ℕ
 linked links key = if names_symbols key then links.symbols else (if names_texts key then links.texts else 0)
 
--- the part that a part's symbols have their names in
+-- the part that a part links to: the string table of its symbols
 abbrev pub linked_part : Links → List ℕ → ℕ
 linked_part links name = if is_symtab_part name then links.tail_texts else 0
 
@@ -58,7 +58,7 @@ header_of_row names links row = record {
   sh_entsize = entry_size_of row.key;
 }
 
--- the header of a part of the tail, of which the row reports the name, the place and the size
+-- the header of a part of the tail, of which the row has the name, the file offset and the size
 unfoldable pub header_of_part : List (List ℕ) → Links → SectionRow → Shdr
 header_of_part names links row = record {
   sh_name = offset_in names row.key.name;

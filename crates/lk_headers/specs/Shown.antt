@@ -1,4 +1,4 @@
--- The sections that a program header of their own shows (gABI "Program Header": PT_INTERP, PT_DYNAMIC,
+-- The sections that have a program header of their own (gABI "Program Header": PT_INTERP, PT_DYNAMIC,
 -- PT_NOTE), and the thread-local segment (gABI "Thread-Local Storage").
 use Rattle.std.specs.Prelude.{ℕ, Bool, List, ◌-◌, ◌+◌, codes, filter, map}
 use Rattle.lk_elf.specs.Numbers.{pf_r, pf_w, pt_dynamic, pt_interp, pt_note, pt_tls}
@@ -19,7 +19,7 @@ shown_type shown.Interpreter = pt_interp
 shown_type shown.Dynamic = pt_dynamic
 shown_type shown.Note = pt_note
 
--- the rights that it reports
+-- the flags of such a header
 abbrev pub shown_flags : Shown → ℕ
 shown_flags shown.Interpreter = pf_r
 shown_flags shown.Dynamic = pf_r + pf_w

@@ -1,5 +1,5 @@
--- The tail of an image by the rows of its parts (own): the name, the place in the file and the size of
--- each. The section headers follow the last part.
+-- The tail of an image by the rows of its parts (own): the name, the file offset and the size of each.
+-- The section headers follow the last part.
 use Rattle.std.specs.Prelude.{ℕ, ◌+◌, List, [], ◌∷◌, length, map}
 use Rattle.lk_model.specs.Amounts.{round_up}
 use Rattle.lk_model.specs.FullPlace.{tail_start}
@@ -16,7 +16,7 @@ abbrev pub last_end : ℕ → List SectionRow → ℕ
 last_end begin [] = begin
 last_end begin (row ∷ rows) = last_end (row.offset + row.size) rows
 
--- where the section headers are
+-- the file offset of the section headers
 abbrev pub headers_at : Placement → List SectionRow → ℕ
 headers_at place tail = round_up (last_end (tail_start place) tail) 8
 

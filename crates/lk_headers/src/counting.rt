@@ -10,21 +10,21 @@ use crate::shown::{Shown, shown_count};
 use crate::thread_block::thread_segment;
 use lk_model::layouts::Placement;
 
-/// One for what is there.
+/// 1 where something is present, else 0.
 fn one_if(there: bool) -> u64
     ensures { result ≡ one_if there }
 {
     if there { 1 } else { 0 }
 }
 
-/// Whether there is a thread-local segment.
+/// Whether a placement has a thread-local segment (gABI "Thread-Local Storage").
 fn has_thread_segment(place: &Placement) -> bool
     ensures { result ≡ is_some (tls_segment place.now) }
 {
     thread_segment(place).is_some()
 }
 
-/// How many sections of a placement have a header of a kind.
+/// The number of sections of a placement that have a program header of this kind.
 fn shown_in(kind: Shown, place: &Placement) -> u64
     ensures value { result ≡ shown_in kind place.now }
     ensures bound { result < 2 ^ 60 }
@@ -43,7 +43,7 @@ fn count_over(place: &Placement) -> u64
     one_if(0 < interpreters) + shown + segments + 3
 }
 
-/// How many program headers a placement asks for.
+/// The number of program headers of a placement.
 #[tactic(auto, using(crate::proofs::Counted::counted))]
 pub(crate) fn header_count(place: &Placement) -> u64
     ensures { (exec_stack : Bool) → result ≡ length (program_headers place.now exec_stack) }

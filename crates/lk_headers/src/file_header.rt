@@ -14,7 +14,7 @@ use lk_elf::numbers::{EM_X86_64, ET_EXEC};
 use lk_model::classes::in_file;
 use lk_model::layouts::{Placement, SectionRow, SectionRowList};
 
-/// Where a room ends in the file.
+/// The file offset at which the room of an output section ends.
 fn end_in_file(row: &SectionRow) -> u128
     ensures value { result ≡ row.now.offset + row.now.room }
     ensures bound { result < 2 ^ 65 }
@@ -22,7 +22,7 @@ fn end_in_file(row: &SectionRow) -> u128
     u128::from(row.offset) + u128::from(row.room)
 }
 
-/// Where the last room ends that the file holds, or 0.
+/// The file offset at which the last room ends that takes bytes of the file, or 0.
 fn file_end(rows: &[SectionRow]) -> u128
     ensures value { result ≡ file_end rows.now }
     ensures bound { result < 2 ^ 65 }
@@ -36,7 +36,7 @@ fn file_end(rows: &[SectionRow]) -> u128
     most
 }
 
-/// Where a part of the tail ends in the file.
+/// The file offset at which a part of the tail ends.
 fn part_end(row: &SectionRow) -> u128
     ensures value { result ≡ row.now.offset + row.now.size }
     ensures bound { result < 2 ^ 65 }
@@ -44,7 +44,7 @@ fn part_end(row: &SectionRow) -> u128
     u128::from(row.offset) + u128::from(row.size)
 }
 
-/// Where the last part of the tail ends; without a part, where the tail begins.
+/// The file offset at which the last part of the tail ends; without a part, where the tail begins.
 #[tactic(auto, using(crate::proofs::TailEnds::at_last, crate::proofs::TailEnds::at_none))]
 fn tail_end(rows: &[SectionRow], tail: &[SectionRow]) -> u128
     ensures value { result ≡ last_end (file_end rows.now) tail.now }
@@ -56,14 +56,14 @@ fn tail_end(rows: &[SectionRow], tail: &[SectionRow]) -> u128
     }
 }
 
-/// Where the section headers are.
+/// The file offset of the section headers (`e_shoff`).
 fn headers_at(place: &Placement, tail: &SectionRowList) -> u128
     ensures { result ≡ headers_at place.now tail.now }
 {
     (tail_end(place.sections.as_slice(), tail.as_slice()) + 7) / 8 * 8
 }
 
-/// The header of an image with these rows and so many program headers.
+/// The file header of an image with these rows and so many program headers.
 #[tactic(auto, using(crate::proofs::FieldBytes::ehdr_reported), unfolding(crate::specs::Front::front_header))]
 pub(crate) fn file_header(place: &Placement, tail: &SectionRowList, entry: u64, count: u16) -> Ehdr
     requires { (exec_stack : Bool) → count ≡ length (program_headers place.now exec_stack) }

@@ -1,4 +1,4 @@
-//! What is before the seal of an image.
+//! The bytes before the seal of an image: the file header, the program headers, zeros.
 
 ghost use Rattle.std.specs.Prelude.{◌≡◌, ◌≤◌, ◌++◌, Bool, length, IfOk, OnOk};
 ghost use Rattle.lk_model.specs.Segments.{program_headers};
@@ -31,7 +31,7 @@ fn put_front(
     put_program_headers(out, placement, exec_stack, count)
 }
 
-/// The headers with zeros after them, for so many program headers.
+/// The bytes before the seal of an image with so many program headers.
 #[tactic(auto, using(crate::proofs::FrontLengths::front_fits, crate::proofs::FrontLengths::front_padded))]
 fn front_bytes(
     alloc: Global,
@@ -53,16 +53,16 @@ fn front_bytes(
     Ok(Bytes::from_vec(out))
 }
 
-/// What is before the seal of an image, its first 4,088 bytes (gABI "ELF Header", "Program Header"; the
-/// seal is this project's own): the file header, the program headers, and zeros.
+/// The first 4,088 bytes of an image, up to its seal (gABI "ELF Header", "Program Header"; the seal is this
+/// project's own): the file header, the program headers, and zeros.
 ///
-/// `tail` has the parts of the tail in their order, each with its name, its place in the file and its
-/// size in bytes; `entry` is the address where the program begins; `exec_stack` says whether the stack
-/// may be executed. A number that is greater than its field is written by its low bytes.
+/// `tail` has the parts of the tail in their order, each with its name, its file offset and its size
+/// in bytes; `entry` is the address of the entry (`e_entry`); `exec_stack` says whether the stack is
+/// executable. A number that is greater than its field is written by its low bytes.
 ///
 /// # Errors
-/// `Limit` exactly where the placement asks for more than 64 program headers, with their whole number;
-/// `NoMemory` where memory is wanting.
+/// `Limit` exactly where the placement has more than 64 program headers, with their number; `NoMemory` when
+/// out of memory.
 pub fn headers(
     alloc: Global,
     placement: &Placement,

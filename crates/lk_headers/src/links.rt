@@ -1,4 +1,4 @@
-//! The sections that others name things in (gABI "Sections", `sh_link`).
+//! The sections that other sections link to (gABI "Section Header", `sh_link`).
 
 ghost use Rattle.std.specs.Prelude.{◌≡◌, bytes_eq, position};
 ghost use Rattle.lk_model.specs.SectionKeys.{named, same_key};
@@ -10,25 +10,25 @@ use crate::section_kinds::is_symtab_part;
 use crate::shown::{is_key, is_name};
 use lk_model::layouts::{Class, Placement, SectionKey, SectionRow, SectionRowList};
 
-/// The numbers of the headers of sections that others link to, 0 for one that is not there.
+/// The header numbers of the sections that others link to; 0 for one that the image does not have.
 #[derive(Clone, Copy)]
 pub(crate) struct Links {
-    /// The dynamic symbols.
+    /// The dynamic symbol table, `.dynsym`.
     pub(crate) symbols: usize,
-    /// The dynamic texts.
+    /// The string table of the dynamic symbols, `.dynstr`.
     pub(crate) texts: usize,
-    /// The names of the symbols in the tail.
+    /// The string table of the symbols in the tail, `.strtab`.
     pub(crate) tail_texts: usize,
 }
 
-/// The place of the row of a key among rows.
+/// The index of the row of a key among rows.
 fn place_of_key(rows: &[SectionRow], name: &[u8], class: Class) -> Option<usize>
     ensures { result ≡ position (λ (row : SectionRow). same_key row.key (named name.now class)) rows.now }
 {
     rows.iter().position(|row| is_key(&row.key, name, class))
 }
 
-/// The place of the row of a name among the parts of the tail.
+/// The index of the row of a name among the parts of the tail.
 fn place_of_name(tail: &[SectionRow], name: &[u8]) -> Option<usize>
     ensures { result ≡ position (λ (row : SectionRow). bytes_eq row.key.name name.now) tail.now }
 {
@@ -68,7 +68,7 @@ pub(crate) fn links_of(place: &Placement, tail: &SectionRowList) -> Links
     }
 }
 
-/// Whether a section's entries name symbols.
+/// Whether a section's entries refer to dynamic symbols.
 fn names_symbols(key: &SectionKey) -> bool
     ensures { result ≡ names_symbols key.now }
 {
@@ -77,14 +77,14 @@ fn names_symbols(key: &SectionKey) -> bool
         || is_key(key, b".rela.plt", Class::R)
 }
 
-/// Whether a section's entries name texts.
+/// Whether a section's entries refer to texts of the dynamic string table.
 fn names_texts(key: &SectionKey) -> bool
     ensures { result ≡ names_texts key.now }
 {
     is_key(key, b".dynsym", Class::R) || is_key(key, b".dynamic", Class::W)
 }
 
-/// The section that a section's entries name things in.
+/// The section that an output section links to: the dynamic symbols or their string table; 0 for none.
 pub(crate) fn linked(links: &Links, key: &SectionKey) -> usize
     ensures { result ≡ linked links.now key.now }
 {
@@ -97,7 +97,7 @@ pub(crate) fn linked(links: &Links, key: &SectionKey) -> usize
     }
 }
 
-/// The part of the tail that a part's symbols have their names in.
+/// The part of the tail that a part links to: the string table of its symbols; 0 for none.
 pub(crate) fn linked_part(links: &Links, name: &[u8]) -> usize
     ensures { result ≡ linked_part links.now name.now }
 {

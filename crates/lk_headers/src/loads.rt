@@ -1,5 +1,5 @@
-//! The headers of the loaded segments (gABI "Program Header", "Program Loading"). The first begins with
-//! the file, each other at the next page after the one before.
+//! The headers of the loaded segments (gABI "Program Header", "Program Loading"). The first begins at
+//! the start of the file, each other one at the next page after the one before.
 
 ghost use Rattle.std.specs.Prelude.{◌≡◌, ◌<◌, ◌^◌};
 ghost use Rattle.std.specs.List.{list_any};
@@ -20,7 +20,7 @@ use lk_model::classes::same_class;
 use lk_model::images::{FIRST_ADDRESS, LOAD_BASE, PAGE};
 use lk_model::layouts::{Class, Placement, SectionRow};
 
-/// The next page from a place on.
+/// A number of bytes rounded up to whole pages.
 fn next_page(n: u128) -> u128
     requires { n < 2 ^ 65 }
     ensures { result ≡ round_up n page }
@@ -51,7 +51,7 @@ fn third_segment_start(place: &Placement) -> u128
     next_page(first_segment_end(place).max(end))
 }
 
-/// A header of a segment that is loaded, from an address to its ends in the file and in memory.
+/// The program header of a loaded segment, from its address to its ends in the file and in memory.
 #[tactic(auto, using(crate::proofs::FieldBytes::phdr_reported))]
 fn load(flags: u32, address: u128, stored: u128, end: u128) -> Phdr
     ensures { phdr_bytes result ≡ phdr_bytes (load_header flags address stored end) }
@@ -76,14 +76,14 @@ pub(crate) fn has_rows(segment: Loaded, place: &Placement) -> bool
     is_any_in(segment, place.sections.as_slice())
 }
 
-/// Whether a row is one of a segment's.
+/// Whether any of these sections is in a segment.
 fn is_any_in(segment: Loaded, rows: &[SectionRow]) -> bool
     ensures { result ≡ list_any (is_in_segment segment) rows.now }
 {
     rows.iter().any(|row| is_in_segment(segment, row))
 }
 
-/// The rights of the third segment.
+/// The flags (`p_flags`) of the third segment.
 fn third_flags(place: &Placement) -> u32
     ensures { result ≡ third_flags place.now }
 {
@@ -94,14 +94,14 @@ fn third_flags(place: &Placement) -> u32
     }
 }
 
-/// Whether a section can be both written and executed.
+/// Whether a section is both writable and executable.
 fn has_code(rows: &[SectionRow]) -> bool
     ensures { result ≡ list_any (λ row. same_class row.key.class WX) rows.now }
 {
     rows.iter().any(|row| same_class(row.key.class, Class::WX))
 }
 
-/// The header of the first segment, which also holds the headers of the file.
+/// The program header of the first segment, which begins with the file header and the program headers.
 pub(crate) fn first_load(place: &Placement) -> Phdr
     ensures { phdr_bytes result ≡ phdr_bytes (first_load place.now) }
 {
@@ -109,7 +109,7 @@ pub(crate) fn first_load(place: &Placement) -> Phdr
     load(PF_R, u128::from(LOAD_BASE), end, end)
 }
 
-/// The header of the second segment, if it has a section.
+/// The program header of the second segment, if it has a section.
 pub(crate) fn second_load(place: &Placement) -> Phdr
     ensures { phdr_bytes result ≡ phdr_bytes (second_header place.now) }
 {
@@ -121,7 +121,7 @@ pub(crate) fn second_load(place: &Placement) -> Phdr
     )
 }
 
-/// The header of the third segment.
+/// The program header of the third segment.
 pub(crate) fn third_load(place: &Placement) -> Phdr
     ensures { phdr_bytes result ≡ phdr_bytes (third_load place.now) }
 {

@@ -19,7 +19,7 @@ use lk_elf::numbers::{PF_R, PT_PHDR};
 use lk_model::layouts::Placement;
 use lk_report::NoMemory;
 
-/// The header that shows all the headers, itself among them.
+/// The header that describes the program headers, itself among them (PT_PHDR).
 fn table_phdr(count: u16) -> Phdr
     ensures { result ≡ table_phdr count }
 {
@@ -36,7 +36,7 @@ fn table_phdr(count: u16) -> Phdr
     }
 }
 
-/// Puts the header that shows all the headers at the end, where one names an interpreter.
+/// Puts the header that describes the program headers at the end, where one is PT_INTERP.
 #[tactic(auto, using(crate::proofs::PutInTurn::table_put, crate::proofs::PutInTurn::no_table_put))]
 fn put_table(out: &mut Vec<u8>, place: &Placement, count: u16) -> Result<(), NoMemory>
     requires { 0 < count }
@@ -80,7 +80,7 @@ fn put_thread(out: &mut Vec<u8>, place: &Placement) -> Result<(), NoMemory>
     }
 }
 
-/// Puts the headers after those of the loaded segments at the end.
+/// Puts the headers that come after those of the loaded segments at the end.
 #[tactic(auto, using(crate::proofs::PutInTurn::others_put), unfolding(crate::specs::ProgramHeaders::others_of))]
 fn put_others(out: &mut Vec<u8>, place: &Placement, exec_stack: bool) -> Result<(), NoMemory>
     ensures { OnOk result (out.new.items ≡ out.old.items ++ flat_map phdr_bytes (others_of place.now exec_stack)) }

@@ -1,4 +1,4 @@
-//! What the name and the class of a section say of its header (gABI "Sections", "Special Sections").
+//! The fields of a section header by the name and the class of the section (gABI "Sections", "Special Sections").
 
 ghost use Rattle.std.specs.Prelude.{◌≡◌};
 ghost use Rattle.lk_model.specs.SectionKeys.{header_flags, header_type, typed_keys};
@@ -15,7 +15,7 @@ use lk_elf::numbers::{
 use lk_model::classes::in_file;
 use lk_model::layouts::{Class, SectionKey};
 
-/// The type of a table of a dynamic link, and of any section that is none.
+/// The `sh_type` of a table of a dynamic link; PROGBITS for any other section.
 #[tactic(auto, unfolding(crate::specs::SectionKinds::table_types))]
 fn table_type(key: &SectionKey) -> u32
     ensures { result ≡ type_among table_types key.now }
@@ -35,7 +35,7 @@ fn table_type(key: &SectionKey) -> u32
     }
 }
 
-/// The type of an array of functions, and of any other section that the file holds.
+/// The `sh_type` of an array of functions, and of any other section that takes bytes of the file.
 #[tactic(auto, unfolding(crate::specs::SectionKinds::table_types))]
 fn stored_type(key: &SectionKey) -> u32
     ensures { result ≡ type_among typed_keys key.now }
@@ -51,7 +51,7 @@ fn stored_type(key: &SectionKey) -> u32
     }
 }
 
-/// The type of a section.
+/// The `sh_type` of a section.
 #[tactic(auto, unfolding(lk_model::specs::SectionKeys::header_type))]
 pub(crate) fn header_type(key: &SectionKey) -> u32
     ensures { result ≡ header_type key.now }
@@ -65,7 +65,7 @@ pub(crate) fn header_type(key: &SectionKey) -> u32
     }
 }
 
-/// The flags of the sections of a class.
+/// The `sh_flags` of the sections of a class.
 pub(crate) fn header_flags(class: Class) -> u64
     ensures { result ≡ header_flags class }
 {
@@ -81,7 +81,7 @@ pub(crate) fn header_flags(class: Class) -> u64
     }
 }
 
-/// The number of the first symbol of a table that is not LOCAL, 0 for any other section.
+/// The `sh_info` of a section: of a symbol table the number of its first symbol that is not LOCAL, else 0.
 pub(crate) fn info_of(key: &SectionKey) -> u32
     ensures { result ≡ info_of key.now }
 {
@@ -92,7 +92,7 @@ pub(crate) fn info_of(key: &SectionKey) -> u32
     }
 }
 
-/// The size in bytes of an entry of a table, 0 for any other section.
+/// The `sh_entsize` of a section: the size in bytes of an entry of a table, else 0.
 pub(crate) fn entry_size_of(key: &SectionKey) -> u64
     ensures { result ≡ entry_size_of key.now }
 {
@@ -118,7 +118,7 @@ pub(crate) fn is_symtab_part(name: &[u8]) -> bool
     is_name(name, b".symtab")
 }
 
-/// The type of a part of the tail.
+/// The `sh_type` of a part of the tail.
 pub(crate) fn part_type(name: &[u8]) -> u32
     ensures { result ≡ part_type name.now }
 {
@@ -131,14 +131,14 @@ pub(crate) fn part_type(name: &[u8]) -> u32
     }
 }
 
-/// The number of the first symbol of a part that is not LOCAL, 0 for a part without symbols.
+/// The `sh_info` of a part: the number of its first symbol that is not LOCAL, 0 without symbols.
 pub(crate) fn part_info(name: &[u8]) -> u32
     ensures { result ≡ part_info name.now }
 {
     if is_symtab_part(name) { 1 } else { 0 }
 }
 
-/// The size in bytes of an entry of a part, 0 for a part without symbols.
+/// The `sh_entsize` of a part: the size in bytes of a symbol, 0 without symbols.
 pub(crate) fn part_entry_size(name: &[u8]) -> u64
     ensures { result ≡ part_entry_size name.now }
 {

@@ -9,7 +9,6 @@ ghost use Rattle.lk_headers.specs.SectionTable.{header_of_part, header_of_row};
 use crate::appending::put_section_header;
 use crate::links::{Links, linked, linked_part};
 use crate::low_bits::low_32;
-use crate::name_table::NameTable;
 use crate::section_kinds::{
     entry_size_of, header_flags, header_type, info_of, part_entry_size, part_info, part_type,
 };
@@ -17,8 +16,9 @@ use lk_elf::Shdr;
 use lk_elf::numbers::SHT_NULL;
 use lk_model::layouts::SectionRow;
 use lk_report::NoMemory;
+use lk_string_table::StringTable;
 
-/// The header of no section, which comes first.
+/// The null section header, which comes first.
 pub(crate) fn null_header() -> Shdr
     ensures { result ≡ null_header }
 {
@@ -38,7 +38,7 @@ pub(crate) fn null_header() -> Shdr
 
 /// The header of an output section.
 #[tactic(auto, using(crate::proofs::FieldBytes::shdr_reported), unfolding(crate::specs::SectionTable::header_of_row))]
-fn header_of_row(names: &NameTable, links: &Links, row: &SectionRow) -> Shdr
+fn header_of_row(names: &StringTable, links: &Links, row: &SectionRow) -> Shdr
     ensures { shdr_bytes result ≡ shdr_bytes (header_of_row names.now links.now row.now) }
 {
     Shdr {
@@ -57,7 +57,7 @@ fn header_of_row(names: &NameTable, links: &Links, row: &SectionRow) -> Shdr
 
 /// The header of a part of the tail.
 #[tactic(auto, using(crate::proofs::FieldBytes::shdr_reported), unfolding(crate::specs::SectionTable::header_of_part))]
-fn header_of_part(names: &NameTable, links: &Links, row: &SectionRow) -> Shdr
+fn header_of_part(names: &StringTable, links: &Links, row: &SectionRow) -> Shdr
     ensures { shdr_bytes result ≡ shdr_bytes (header_of_part names.now links.now row.now) }
 {
     let name = row.key.name.as_slice();
@@ -78,7 +78,7 @@ fn header_of_part(names: &NameTable, links: &Links, row: &SectionRow) -> Shdr
 /// Puts the headers of output sections at the end.
 pub(crate) fn put_rows(
     out: &mut Vec<u8>,
-    names: &NameTable,
+    names: &StringTable,
     links: &Links,
     rows: &[SectionRow],
 ) -> Result<(), NoMemory>
@@ -93,7 +93,7 @@ pub(crate) fn put_rows(
 /// Puts the headers of the tail's parts at the end.
 pub(crate) fn put_parts(
     out: &mut Vec<u8>,
-    names: &NameTable,
+    names: &StringTable,
     links: &Links,
     tail: &[SectionRow],
 ) -> Result<(), NoMemory>

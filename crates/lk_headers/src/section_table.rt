@@ -7,15 +7,15 @@ ghost use Rattle.lk_headers.specs.SectionTable.{names_of, section_table_bytes};
 
 use crate::appending::put_section_header;
 use crate::links::links_of;
-use crate::name_table::NameTable;
 use crate::section_rows::{null_header, put_parts, put_rows};
 use lk_elf::numbers::SHDR_SIZE;
 use lk_model::layouts::{Placement, SectionRow, SectionRowList};
 use lk_report::{Bytes, NoMemory};
+use lk_string_table::StringTable;
 use std::alloc::Global;
 
 /// Notes the names of rows.
-fn note_names<'a>(names: &mut NameTable<'a>, rows: &'a [SectionRow]) -> Result<(), NoMemory>
+fn note_names<'a>(names: &mut StringTable<'a>, rows: &'a [SectionRow]) -> Result<(), NoMemory>
     ensures { OnOk result (names.new ≡ fold with_text names.old (map row_name rows.now)) }
 {
     for row in rows {
@@ -24,18 +24,20 @@ fn note_names<'a>(names: &mut NameTable<'a>, rows: &'a [SectionRow]) -> Result<(
     Ok(())
 }
 
-/// The names of all sections in header order, each once.
+/// The string table of the names of all sections, in header order.
 #[tactic(auto, using(crate::proofs::SectionsPut::both_noted))]
 fn names_of<'a>(
     alloc: Global,
     place: &'a Placement,
     tail: &'a SectionRowList,
-) -> Result<NameTable<'a>, NoMemory>
+) -> Result<StringTable<'a>, NoMemory>
     ensures { IfOk result (λ names. names ≡ names_of place.now tail.now) }
 {
-    let mut names = NameTable::new(alloc)?;
-    note_names(&mut names, place.sections.as_slice())?;
-    note_names(&mut names, tail.as_slice())?;
+    let rows = place.sections.as_slice();
+    let parts = tail.as_slice();
+    let mut names = StringTable::new(alloc, rows.len() + parts.len())?;
+    note_names(&mut names, rows)?;
+    note_names(&mut names, parts)?;
     Ok(names)
 }
 
@@ -43,7 +45,7 @@ fn names_of<'a>(
 #[tactic(auto, using(crate::proofs::SectionsPut::table_put))]
 fn put_table(
     out: &mut Vec<u8>,
-    names: &NameTable,
+    names: &StringTable,
     place: &Placement,
     tail: &SectionRowList,
 ) -> Result<(), NoMemory>
@@ -60,9 +62,9 @@ fn put_table(
 /// The section headers that end an image (gABI "Sections", "Section Header"): the null header, those of the
 /// output sections in their order, and those of the tail's parts.
 ///
-/// `tail` has the parts of the tail in their order, each with its name, its place in the file and its
-/// size in bytes. A name's place is that of its first use among the names in header order, each of which
-/// is once after an empty one. A number that is greater than its field is written by its low bytes.
+/// `tail` has the parts of the tail in their order, each with its name, its file offset and its size
+/// in bytes. `sh_name` is the offset of the name in the string table of the names in header order. Of a number
+/// that is greater than its field the low bytes are written.
 ///
 /// # Errors
 /// Out of memory.

@@ -10,24 +10,24 @@ use lk_model::layouts::{Class, Placement, SectionRow};
 /// A loaded segment, in the order of the file.
 #[derive(Clone, Copy)]
 pub(crate) enum Loaded {
-    /// What is read.
+    /// Sections that are only read (R).
     First,
-    /// What is executed.
+    /// Sections that are executed (RX).
     Second,
-    /// What is written.
+    /// Sections that are written (RW, or RWX where one is executed too).
     Third,
 }
 
-/// What an end is asked of.
+/// Which end of a segment is meant.
 #[derive(Clone, Copy)]
 pub(crate) enum Side {
-    /// The bytes that the file holds.
+    /// The end in the file.
     File,
-    /// The bytes in memory.
+    /// The end in memory.
     Memory,
 }
 
-/// Whether a row is one of a segment's.
+/// Whether an output section is in a segment.
 pub(crate) fn is_in_segment(segment: Loaded, row: &SectionRow) -> bool
     ensures { result ≡ is_in_segment segment row.now }
 {
@@ -48,7 +48,8 @@ pub(crate) fn is_in_segment(segment: Loaded, row: &SectionRow) -> bool
     }
 }
 
-/// Whether a room counts for the end.
+/// Whether an output section's room counts for this end: sections without bytes in the file do not count for
+/// the end in the file, nor `.tbss` for the end in memory.
 fn counts_for(side: Side, row: &SectionRow) -> bool
     ensures { result ≡ counts_for side row.now }
 {
@@ -58,7 +59,7 @@ fn counts_for(side: Side, row: &SectionRow) -> bool
     }
 }
 
-/// Where a room ends in memory.
+/// The address at which the room of an output section ends.
 pub(crate) fn room_end(row: &SectionRow) -> u128
     ensures value { result ≡ room_end row.now }
     ensures bound { result < 2 ^ 65 }

@@ -1,4 +1,4 @@
-//! The sections that a program header of their own shows (gABI "Program Header").
+//! The sections that have a program header of their own (gABI "Program Header").
 
 ghost use Rattle.std.specs.Prelude.{◌≡◌, bytes_eq, count_by};
 ghost use Rattle.lk_model.specs.SectionKeys.{is_note, named, same_key};
@@ -10,14 +10,14 @@ use lk_elf::numbers::{PF_R, PF_W, PT_DYNAMIC, PT_INTERP, PT_NOTE};
 use lk_model::classes::same_class;
 use lk_model::layouts::{Class, SectionKey, SectionRow};
 
-/// What such a section holds.
+/// The kind of such a section.
 #[derive(Clone, Copy)]
 pub(crate) enum Shown {
-    /// The path of the dynamic linker.
+    /// The path of the dynamic linker (PT_INTERP).
     Interpreter,
-    /// What the dynamic linker is reported.
+    /// The dynamic section (PT_DYNAMIC).
     Dynamic,
-    /// Notes.
+    /// Notes (PT_NOTE).
     Note,
 }
 
@@ -81,7 +81,7 @@ pub(crate) fn shown_count(kind: Shown, rows: &[SectionRow]) -> usize
     rows.iter().filter(|row| is_shown(kind, row)).count()
 }
 
-/// The header of a section, which shows its bytes in the file and in memory.
+/// The program header of a section, with its bytes in the file and in memory.
 pub(crate) fn header_of(kind: Shown, row: &SectionRow) -> Phdr
     ensures { result ≡ section_header_of (shown_type kind) (shown_flags kind) row.now }
 {

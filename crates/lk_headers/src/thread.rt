@@ -46,7 +46,7 @@ pub(crate) fn thread_local_header(place: &Placement) -> Option<Phdr>
     }
 }
 
-/// The header of the stack, which may be executed where that is asked for.
+/// The header of the stack (PT_GNU_STACK), executable where that is asked for.
 pub(crate) fn stack_header(exec_stack: bool) -> Phdr
     ensures { result ≡ stack_header exec_stack }
 {

@@ -21,7 +21,7 @@ pub(crate) struct ThreadSegment {
     pub(crate) addr: u64,
     /// Its bytes in the file.
     pub(crate) file: u64,
-    /// Its bytes in memory, which may be more than a field holds.
+    /// Its bytes in memory, which may be more than 64 bits can count.
     pub(crate) memory: u128,
     /// Its alignment in bytes.
     pub(crate) align: u64,
@@ -128,8 +128,8 @@ pub fn tls_start(place: &Placement) -> u64
 }
 
 /// The address at which the thread-local block of a placement ends, its bytes rounded up to its alignment,
-/// and 0 where no section is thread-local. The thread pointer is there (psABI x86-64 "Thread-Local
-/// Storage"). It is a sum of fields and may be more than one holds.
+/// and 0 where no section is thread-local. The thread pointer is this address (psABI x86-64
+/// "Thread-Local Storage"). A sum of fields, it may be greater than 64 bits can count.
 pub fn tls_end(place: &Placement) -> u128
     ensures { result ≡ tls_end place.now }
 {

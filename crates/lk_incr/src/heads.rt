@@ -7,15 +7,15 @@ ghost use Rattle.lk_model.specs.SectionKeys.{class_number};
 ghost use Rattle.lk_model.specs.Texts.{offset_in};
 ghost use Rattle.lk_incr.specs.Words.{words_of};
 
-use crate::text_table::TextTable;
 use crate::words::{Word, long, pair, put_words};
 use lk_model::classes::class_number;
 use lk_model::layouts::SectionRow;
 use lk_model::records::Records;
 use lk_report::{NoMemory, OptionRecord};
+use lk_string_table::StringTable;
 
 /// The head, 32 bytes: the version, the options, and how many inputs and output sections follow.
-fn head_words(table: &TextTable<'_>, records: &Records) -> [Word; 4]
+fn head_words(table: &StringTable<'_>, records: &Records) -> [Word; 4]
     ensures { result ≡ words_of (offset_in table.now) (head_fields records.now) }
 {
     let options = &records.options;
@@ -35,7 +35,7 @@ fn head_words(table: &TextTable<'_>, records: &Records) -> [Word; 4]
 /// Puts the head at the end.
 pub(crate) fn put_head(
     out: &mut Vec<u8>,
-    table: &TextTable<'_>,
+    table: &StringTable<'_>,
     records: &Records,
 ) -> Result<(), NoMemory>
     ensures { OnOk result (out.new.items ≡ out.old.items ++ spelled (offset_in table.now) (head_fields records.now)) }
@@ -44,9 +44,9 @@ pub(crate) fn put_head(
     Ok(())
 }
 
-/// An output section, 48 bytes: its name and class, and its address, place in the file, size, room and
+/// An output section, 48 bytes: its name and class, and its address, file offset, size, room and
 /// alignment.
-fn section_words(table: &TextTable<'_>, row: &SectionRow) -> [Word; 6]
+fn section_words(table: &StringTable<'_>, row: &SectionRow) -> [Word; 6]
     ensures { result ≡ words_of (offset_in table.now) (section_fields row.now) }
 {
     let name = table.offset(row.key.name.as_slice());
@@ -63,7 +63,7 @@ fn section_words(table: &TextTable<'_>, row: &SectionRow) -> [Word; 6]
 /// Puts an output section at the end.
 pub(crate) fn put_section(
     out: &mut Vec<u8>,
-    table: &TextTable<'_>,
+    table: &StringTable<'_>,
     row: &SectionRow,
 ) -> Result<(), NoMemory>
     ensures { OnOk result (out.new.items ≡ out.old.items ++ spelled (offset_in table.now) (section_fields row.now)) }
@@ -79,7 +79,7 @@ fn option_flags(options: &OptionRecord) -> u64
     bit(options.dynamic) + 2 * bit(options.export_dynamic)
 }
 
-/// A truth as a number.
+/// 1 for true, 0 for false.
 pub(crate) fn bit(truth: bool) -> u64
     ensures value { result ≡ bit truth }
     ensures small { result ≤ 1 }

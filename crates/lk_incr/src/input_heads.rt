@@ -8,14 +8,14 @@ ghost use Rattle.lk_model.specs.Texts.{offset_in};
 ghost use Rattle.lk_incr.specs.Words.{words_of};
 
 use crate::heads::bit;
-use crate::text_table::TextTable;
 use crate::words::{Word, long, pair, put_words};
 use lk_model::records::InputRecord;
 use lk_model::summaries::Kind;
 use lk_report::{NoMemory, Stamp};
+use lk_string_table::StringTable;
 
 /// The head of an input, 56 bytes: what it is, its stamp, and how many pieces, symbols and groups follow.
-fn input_words(table: &TextTable<'_>, input: &InputRecord) -> [Word; 7]
+fn input_words(table: &StringTable<'_>, input: &InputRecord) -> [Word; 7]
     ensures { result ≡ words_of (offset_in table.now) (input_head input.now) }
 {
     let summary = &input.summary;
@@ -38,7 +38,7 @@ fn input_words(table: &TextTable<'_>, input: &InputRecord) -> [Word; 7]
 /// Puts the head of an input at the end.
 pub(crate) fn put_input_head(
     out: &mut Vec<u8>,
-    table: &TextTable<'_>,
+    table: &StringTable<'_>,
     input: &InputRecord,
 ) -> Result<(), NoMemory>
     ensures { OnOk result (out.new.items ≡ out.old.items ++ spelled (offset_in table.now) (input_head input.now)) }
@@ -60,7 +60,7 @@ fn input_kind(input: &InputRecord) -> u64
     }
 }
 
-/// Whether there is a stamp, as a number.
+/// 1 where there is a stamp, else 0.
 fn stamp_flag(stamp: Option<Stamp>) -> u64
     ensures { result ≡ stamp_flag stamp }
 {
@@ -70,7 +70,7 @@ fn stamp_flag(stamp: Option<Stamp>) -> u64
     }
 }
 
-/// The length that a stamp reports, in bytes, or 0.
+/// The length in a stamp, in bytes; 0 without a stamp.
 fn stamp_length(stamp: Option<Stamp>) -> u64
     ensures { result ≡ stamp_length stamp }
 {
@@ -80,7 +80,7 @@ fn stamp_length(stamp: Option<Stamp>) -> u64
     }
 }
 
-/// The time that a stamp reports, in nanoseconds as two's complement, or 0.
+/// The time in a stamp, in nanoseconds as two's complement; 0 without a stamp.
 fn stamp_time(stamp: Option<Stamp>) -> u64
     ensures { result ≡ stamp_time stamp }
 {

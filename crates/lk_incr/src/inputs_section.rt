@@ -10,9 +10,9 @@ ghost use Rattle.lk_incr.specs.TailParts.{records_with};
 use crate::noting::note_inputs_section;
 use crate::placed_pieces::PlacedPieces;
 use crate::putting::put_inputs_section;
-use crate::text_table::TextTable;
 use lk_model::records::Records;
 use lk_report::{Bytes, NoMemory};
+use lk_string_table::StringTable;
 use std::alloc::Global;
 
 /// The bytes of two record sections.
@@ -25,19 +25,21 @@ pub struct InputsAndTexts {
     pub texts: Bytes,
 }
 
-/// The table of the texts of records, in order of first use.
-fn texts_of_records(alloc: Global, records: &Records) -> Result<TextTable<'_>, NoMemory>
+/// The string table of records: their texts, in order of first use.
+fn texts_of_records(alloc: Global, records: &Records) -> Result<StringTable<'_>, NoMemory>
     ensures { IfOk result (λ table. table ≡ table_of (texts_of (inputs_fields records.now))) }
 {
-    let mut table = TextTable::new(alloc)?;
+    let sections = records.placement.sections.as_slice().len();
+    let inputs = records.inputs.as_slice().len();
+    let mut table = StringTable::new(alloc, sections + inputs)?;
     note_inputs_section(&mut table, records)?;
     Ok(table)
 }
 
-/// The inputs section of records, over the table of their texts.
+/// The inputs section of records, over their string table.
 fn inputs_of_records(
     alloc: Global,
-    table: &TextTable<'_>,
+    table: &StringTable<'_>,
     records: &Records,
 ) -> Result<Bytes, NoMemory>
     ensures { IfOk result (λ bytes. bytes ≡ spelled (offset_in table.now) (inputs_fields records.now)) }
@@ -50,9 +52,9 @@ fn inputs_of_records(
 
 /// The two record sections of an image, in their first form (this project's own): the inputs and the texts.
 ///
-/// Any records are taken. A number that is greater than its field, also a text's place, is written by its
-/// low bytes. Of several rows of one piece the first counts. The texts' table holds each text once, in order
-/// of first use, after the empty one.
+/// The records may be any. Of a number that is greater than its field, also a text's offset, the low bytes are
+/// written. Of several rows of one piece the first counts. The string table has each text once, in order of
+/// first use, after the empty one.
 ///
 /// # Errors
 /// Out of memory.

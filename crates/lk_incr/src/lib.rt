@@ -6,14 +6,14 @@
 //! (`section_names`), and the three as the parts of the image's tail in their order (`tail`).
 //!
 //! The contracts cite lk_model's `inputs_fields`, `spelled` and `table_of`: the section is the bytes of its
-//! fields one after another, a text is in it by its place in the table of texts, and the table has each
-//! text once, in order of first use. They speak of any records: a number that is greater than its field is
-//! written by its low bytes, as the definitions say, so that nothing is asked of the numbers. Callers rely
+//! fields one after another, a text is in it by its offset in the string table, and this table has each
+//! text once, in order of first use. The records may be any: of a number that is greater than its field the
+//! low bytes are written, as in the definitions. Callers rely
 //! on the clause of `tail`: for the records of a link the parts are lk_model's `tail_parts`.
 //!
-//! The records are gone over twice: the first walk (`noting`) fills the table of texts, the second (`putting`)
-//! writes the records, each as words of eight bytes (`words`) with one test for room. A text's place and a
-//! piece's row are looked up by hash, so both are linear.
+//! The records are read twice: the first walk (`noting`) fills the string table (lk_string_table), the second
+//! (`putting`) writes the records, each as words of eight bytes (`words`) with one test for room. A text's
+//! offset and a piece's row are looked up by hash, so both walks are linear.
 #![tactic(auto)]
 
 mod appending;
@@ -26,7 +26,6 @@ mod placed_pieces;
 mod putting;
 mod summaries;
 mod tail_parts;
-mod text_table;
 mod words;
 
 pub use inputs_section::{InputsAndTexts, write_inputs};

@@ -1,4 +1,4 @@
-//! The first walk over the records: the table of their texts, in order of first use.
+//! The first walk over the records: their string table, in order of first use.
 
 ghost use Rattle.std.specs.Prelude.{◌≡◌, [], fold, map, OnOk};
 ghost use Rattle.std.specs.List.{flat_map};
@@ -8,14 +8,14 @@ ghost use Rattle.lk_model.specs.Tail.{row_name};
 ghost use Rattle.lk_model.specs.Texts.{with_text};
 ghost use Rattle.lk_incr.specs.NotedTexts.{global_name, group_name, head_texts, input_texts, piece_name};
 
-use crate::text_table::TextTable;
 use lk_model::layouts::SectionRow;
 use lk_model::records::{InputRecord, Records};
 use lk_model::summaries::{Global, Group, PieceInfo};
 use lk_report::{NoMemory, OptionRecord};
+use lk_string_table::StringTable;
 
 /// Notes the texts of the options.
-fn note_head<'a>(table: &mut TextTable<'a>, options: &'a OptionRecord) -> Result<(), NoMemory>
+fn note_head<'a>(table: &mut StringTable<'a>, options: &'a OptionRecord) -> Result<(), NoMemory>
     ensures { OnOk result (table.new ≡ fold with_text table.old (head_texts options.now)) }
 {
     table.note(options.entry.as_slice())?;
@@ -25,7 +25,7 @@ fn note_head<'a>(table: &mut TextTable<'a>, options: &'a OptionRecord) -> Result
 
 /// Notes the names of output sections.
 pub(crate) fn note_sections<'a>(
-    table: &mut TextTable<'a>,
+    table: &mut StringTable<'a>,
     rows: &'a [SectionRow],
 ) -> Result<(), NoMemory>
     ensures { OnOk result (table.new ≡ fold with_text table.old (map row_name rows.now)) }
@@ -37,7 +37,7 @@ pub(crate) fn note_sections<'a>(
 }
 
 /// Notes the names of pieces.
-fn note_pieces<'a>(table: &mut TextTable<'a>, pieces: &'a [PieceInfo]) -> Result<(), NoMemory>
+fn note_pieces<'a>(table: &mut StringTable<'a>, pieces: &'a [PieceInfo]) -> Result<(), NoMemory>
     ensures { OnOk result (table.new ≡ fold with_text table.old (map piece_name pieces.now)) }
 {
     for piece in pieces {
@@ -47,7 +47,7 @@ fn note_pieces<'a>(table: &mut TextTable<'a>, pieces: &'a [PieceInfo]) -> Result
 }
 
 /// Notes the names of symbols.
-fn note_globals<'a>(table: &mut TextTable<'a>, globals: &'a [Global]) -> Result<(), NoMemory>
+fn note_globals<'a>(table: &mut StringTable<'a>, globals: &'a [Global]) -> Result<(), NoMemory>
     ensures { OnOk result (table.new ≡ fold with_text table.old (map global_name globals.now)) }
 {
     for global in globals {
@@ -57,7 +57,7 @@ fn note_globals<'a>(table: &mut TextTable<'a>, globals: &'a [Global]) -> Result<
 }
 
 /// Notes the signatures of groups.
-fn note_groups<'a>(table: &mut TextTable<'a>, groups: &'a [Group]) -> Result<(), NoMemory>
+fn note_groups<'a>(table: &mut StringTable<'a>, groups: &'a [Group]) -> Result<(), NoMemory>
     ensures { OnOk result (table.new ≡ fold with_text table.old (map group_name groups.now)) }
 {
     for group in groups {
@@ -67,7 +67,7 @@ fn note_groups<'a>(table: &mut TextTable<'a>, groups: &'a [Group]) -> Result<(),
 }
 
 /// Notes the texts of an input.
-fn note_input<'a>(table: &mut TextTable<'a>, input: &'a InputRecord) -> Result<(), NoMemory>
+fn note_input<'a>(table: &mut StringTable<'a>, input: &'a InputRecord) -> Result<(), NoMemory>
     ensures { OnOk result (table.new ≡ fold with_text table.old (input_texts input.now)) }
 {
     let summary = &input.summary;
@@ -79,7 +79,7 @@ fn note_input<'a>(table: &mut TextTable<'a>, input: &'a InputRecord) -> Result<(
 }
 
 /// Notes the texts of inputs.
-fn note_inputs<'a>(table: &mut TextTable<'a>, inputs: &'a [InputRecord]) -> Result<(), NoMemory>
+fn note_inputs<'a>(table: &mut StringTable<'a>, inputs: &'a [InputRecord]) -> Result<(), NoMemory>
     ensures { OnOk result (table.new ≡ fold with_text table.old (flat_map input_texts inputs.now)) }
 {
     for input in inputs {
@@ -91,7 +91,7 @@ fn note_inputs<'a>(table: &mut TextTable<'a>, inputs: &'a [InputRecord]) -> Resu
 /// Notes the texts of the inputs section.
 #[tactic(auto, using(crate::proofs::TextsNoted::section_noted))]
 pub(crate) fn note_inputs_section<'a>(
-    table: &mut TextTable<'a>,
+    table: &mut StringTable<'a>,
     records: &'a Records,
 ) -> Result<(), NoMemory>
     ensures { OnOk result (table.new ≡ fold with_text table.old (texts_of (inputs_fields records.now))) }

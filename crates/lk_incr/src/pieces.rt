@@ -8,20 +8,20 @@ ghost use Rattle.lk_incr.specs.Words.{words_of};
 
 use crate::heads::bit;
 use crate::placed_pieces::PlacedPieces;
-use crate::text_table::TextTable;
 use crate::words::{Word, long, pair, put_words};
 use lk_model::classes::class_number;
 use lk_model::layouts::PieceRow;
 use lk_model::summaries::PieceInfo;
 use lk_report::NoMemory;
+use lk_string_table::StringTable;
 
-/// What is taken for the output section of a piece that is not kept.
+/// The number in place of an output section for a piece that is not kept.
 const NO_SECTION: u64 = 0xffff_ffff;
 
 /// A piece of the input with this number, 40 bytes: its section, its output section and address where it
 /// is kept, its size, alignment and name, and its flags.
 fn piece_words(
-    table: &TextTable<'_>,
+    table: &StringTable<'_>,
     placed: &PlacedPieces<'_>,
     input: u64,
     piece: &PieceInfo,
@@ -42,7 +42,7 @@ fn piece_words(
 /// Puts a piece of the input with this number at the end.
 pub(crate) fn put_piece(
     out: &mut Vec<u8>,
-    table: &TextTable<'_>,
+    table: &StringTable<'_>,
     placed: &PlacedPieces<'_>,
     input: u64,
     piece: &PieceInfo,

@@ -10,8 +10,8 @@ use lk_report::NoMemory;
 use std::alloc::Global;
 use std::marker::Model;
 
-/// By what the row of an input section is found. The input's number is wider than a row can tell, since a
-/// list of inputs may be longer.
+/// The key of the row of an input section. The input's number is wider than that in a row, since a list of
+/// inputs may be longer.
 #[derive(Clone, Copy, PartialEq, Eq, Hash)]
 pub(crate) struct PieceKey {
     /// The input's number.

@@ -1,5 +1,5 @@
 //! The second walk over the records: the bytes of the inputs section, record by record, with each text by
-//! its place in the table.
+//! its offset in the string table.
 
 ghost use Rattle.std.specs.Prelude.{◌≡◌, ◌++◌, OnOk};
 ghost use Rattle.std.specs.List.{enumerate_from, flat_map};
@@ -14,17 +14,17 @@ use crate::input_heads::put_input_head;
 use crate::pieces::put_piece;
 use crate::placed_pieces::PlacedPieces;
 use crate::summaries::{put_global, put_group_head};
-use crate::text_table::TextTable;
 use lk_model::layouts::SectionRow;
 use lk_model::records::{InputRecord, Records};
 use lk_model::summaries::{Global, Group, PieceInfo};
 use lk_report::NoMemory;
+use lk_string_table::StringTable;
 
 /// Puts output sections at the end.
 #[tactic(auto, unfolding(lk_model::specs::RecordFields::spelled))]
 fn put_sections(
     out: &mut Vec<u8>,
-    table: &TextTable<'_>,
+    table: &StringTable<'_>,
     rows: &[SectionRow],
 ) -> Result<(), NoMemory>
     ensures { OnOk result (out.new.items ≡ out.old.items ++ spelled (offset_in table.now) (flat_map section_fields rows.now)) }
@@ -39,7 +39,7 @@ fn put_sections(
 #[tactic(auto, unfolding(lk_model::specs::RecordFields::spelled))]
 fn put_pieces(
     out: &mut Vec<u8>,
-    table: &TextTable<'_>,
+    table: &StringTable<'_>,
     placed: &PlacedPieces<'_>,
     input: u64,
     pieces: &[PieceInfo],
@@ -54,7 +54,11 @@ fn put_pieces(
 
 /// Puts symbols at the end.
 #[tactic(auto, unfolding(lk_model::specs::RecordFields::spelled))]
-fn put_globals(out: &mut Vec<u8>, table: &TextTable<'_>, globals: &[Global]) -> Result<(), NoMemory>
+fn put_globals(
+    out: &mut Vec<u8>,
+    table: &StringTable<'_>,
+    globals: &[Global],
+) -> Result<(), NoMemory>
     ensures { OnOk result (out.new.items ≡ out.old.items ++ spelled (offset_in table.now) (flat_map global_fields globals.now)) }
 {
     for global in globals {
@@ -74,7 +78,7 @@ fn put_members(out: &mut Vec<u8>, members: &[u32]) -> Result<(), NoMemory>
 }
 
 /// Puts a group at the end.
-fn put_group(out: &mut Vec<u8>, table: &TextTable<'_>, group: &Group) -> Result<(), NoMemory>
+fn put_group(out: &mut Vec<u8>, table: &StringTable<'_>, group: &Group) -> Result<(), NoMemory>
     ensures { OnOk result (out.new.items ≡ out.old.items ++ spelled (offset_in table.now) (group_fields group.now)) }
 {
     put_group_head(out, table, group)?;
@@ -84,7 +88,7 @@ fn put_group(out: &mut Vec<u8>, table: &TextTable<'_>, group: &Group) -> Result<
 
 /// Puts groups at the end.
 #[tactic(auto, unfolding(lk_model::specs::RecordFields::spelled))]
-fn put_groups(out: &mut Vec<u8>, table: &TextTable<'_>, groups: &[Group]) -> Result<(), NoMemory>
+fn put_groups(out: &mut Vec<u8>, table: &StringTable<'_>, groups: &[Group]) -> Result<(), NoMemory>
     ensures { OnOk result (out.new.items ≡ out.old.items ++ spelled (offset_in table.now) (flat_map group_fields groups.now)) }
 {
     for group in groups {
@@ -96,7 +100,7 @@ fn put_groups(out: &mut Vec<u8>, table: &TextTable<'_>, groups: &[Group]) -> Res
 /// Puts the input with this number at the end: its head, its pieces, its symbols and its groups.
 fn put_input(
     out: &mut Vec<u8>,
-    table: &TextTable<'_>,
+    table: &StringTable<'_>,
     placed: &PlacedPieces<'_>,
     number: u64,
     input: &InputRecord,
@@ -114,7 +118,7 @@ fn put_input(
 /// Puts all inputs at the end, in their order.
 fn put_inputs(
     out: &mut Vec<u8>,
-    table: &TextTable<'_>,
+    table: &StringTable<'_>,
     placed: &PlacedPieces<'_>,
     inputs: &[InputRecord],
 ) -> Result<(), NoMemory>
@@ -129,7 +133,7 @@ fn put_inputs(
 /// Puts the inputs section at the end: the head, the output sections, the inputs.
 pub(crate) fn put_inputs_section(
     out: &mut Vec<u8>,
-    table: &TextTable<'_>,
+    table: &StringTable<'_>,
     placed: &PlacedPieces<'_>,
     records: &Records,
 ) -> Result<(), NoMemory>

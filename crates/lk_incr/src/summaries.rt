@@ -6,14 +6,14 @@ ghost use Rattle.lk_model.specs.RecordFields.{spelled};
 ghost use Rattle.lk_model.specs.Texts.{offset_in};
 ghost use Rattle.lk_incr.specs.Words.{group_head, words_of};
 
-use crate::text_table::TextTable;
 use crate::words::{Word, long, pair, put_words};
 use lk_model::summaries::{Global, Group, Home};
 use lk_report::NoMemory;
+use lk_string_table::StringTable;
 
 /// A symbol that is not LOCAL, 40 bytes: its name, binding, type and visibility, where it is defined, its
 /// value and size, and its number.
-fn global_words(table: &TextTable<'_>, global: &Global) -> [Word; 5]
+fn global_words(table: &StringTable<'_>, global: &Global) -> [Word; 5]
     ensures { result ≡ words_of (offset_in table.now) (global_fields global.now) }
 {
     let name = table.offset(global.name.as_slice());
@@ -32,7 +32,7 @@ fn global_words(table: &TextTable<'_>, global: &Global) -> [Word; 5]
 /// Puts a symbol at the end.
 pub(crate) fn put_global(
     out: &mut Vec<u8>,
-    table: &TextTable<'_>,
+    table: &StringTable<'_>,
     global: &Global,
 ) -> Result<(), NoMemory>
     ensures { OnOk result (out.new.items ≡ out.old.items ++ spelled (offset_in table.now) (global_fields global.now)) }
@@ -48,7 +48,7 @@ fn properties(binding: u32, code: u32, visibility: u32) -> u64
     binding as u64 + 256 * (code as u64) + 65536 * (visibility as u64)
 }
 
-/// The number of a home.
+/// The number that records where a symbol is defined.
 fn home_number(home: Home) -> u64
     ensures { result ≡ home_number home }
 {
@@ -61,7 +61,7 @@ fn home_number(home: Home) -> u64
     }
 }
 
-/// The section of a home, or 0.
+/// The number of the section that defines a symbol, or 0.
 fn home_section(home: Home) -> u64
     ensures { result ≡ home_section home }
 {
@@ -72,7 +72,7 @@ fn home_section(home: Home) -> u64
 }
 
 /// A group before its members, 8 bytes: its signature, and how many members follow.
-fn group_words(table: &TextTable<'_>, group: &Group) -> [Word; 1]
+fn group_words(table: &StringTable<'_>, group: &Group) -> [Word; 1]
     ensures { result ≡ words_of (offset_in table.now) (group_head group.now) }
 {
     let signature = table.offset(group.signature.as_slice());
@@ -82,7 +82,7 @@ fn group_words(table: &TextTable<'_>, group: &Group) -> [Word; 1]
 /// Puts a group before its members at the end.
 pub(crate) fn put_group_head(
     out: &mut Vec<u8>,
-    table: &TextTable<'_>,
+    table: &StringTable<'_>,
     group: &Group,
 ) -> Result<(), NoMemory>
     ensures { OnOk result (out.new.items ≡ out.old.items ++ spelled (offset_in table.now) (group_head group.now)) }

@@ -11,10 +11,10 @@ ghost use Rattle.lk_incr.specs.TailParts.{part_with, tail_of, tail_with};
 
 use crate::inputs_section::{InputsAndTexts, write_inputs};
 use crate::noting::note_sections;
-use crate::text_table::TextTable;
 use lk_model::layouts::Placement;
 use lk_model::records::Records;
 use lk_report::{Bytes, List, Name, NoMemory};
+use lk_string_table::StringTable;
 use std::alloc::Global;
 use std::marker::Model;
 
@@ -61,11 +61,12 @@ impl TailPart {
 pub type Tail = List<TailPart>;
 
 /// The names of the sections of an image in header order: the output sections, then the tail.
-fn names_of<'a>(alloc: Global, placement: &'a Placement) -> Result<TextTable<'a>, NoMemory>
+fn names_of<'a>(alloc: Global, placement: &'a Placement) -> Result<StringTable<'a>, NoMemory>
     ensures { (records : Records) → IfOk result (λ names. names ≡ table_of (header_names placement.now (record_parts records))) }
 {
-    let mut names = TextTable::new(alloc)?;
-    note_sections(&mut names, placement.sections.as_slice())?;
+    let rows = placement.sections.as_slice();
+    let mut names = StringTable::new(alloc, rows.len() + 3)?;
+    note_sections(&mut names, rows)?;
     names.note(b".gnu_incremental_inputs")?;
     names.note(b".gnu_incremental_strtab")?;
     names.note(b".shstrtab")?;

@@ -1,5 +1,5 @@
 //! Records as words of eight bytes (this project's own): a number of eight bytes is a word, and two of four
-//! bytes are one. A text is in a record by its place in the table of texts, which is a number of four
+//! bytes are one. A text is in a record by its offset in the string table, a number of four
 //! bytes. A record is put at the end as a whole, with one test for room.
 
 ghost use Rattle.std.specs.Prelude.{◌≡◌, ◌++◌, OnOk};

@@ -1,6 +1,0 @@
-use Rattle.std.proofs.Common.{refl}
-use Rattle.lk_headers.proofs.NameTables.{holds-made}
-use Rattle.lk_headers.proofs.name_table.NameTable.new.Goals as goal
-
-pub invariant_of-result : goal.invariant_of-result
-invariant_of-result c = holds-made _ _ _ c.new-starts.ensures.empty refl c.in-Ok.ensures.entries

@@ -1,9 +1,0 @@
-use Rattle.std.proofs.Common.{◌≡◌, ◌++◌}
-use Rattle.lk_model.specs.Texts.{table_bytes}
-use Rattle.lk_incr.specs.TextTables.{texts_under}
-use Rattle.lk_incr.proofs.text_table.TextTable.put.Given as goal
-
--- what was put and the texts that are left are what was there and all texts
-abbrev pub invariant-loop-text : goal.invariant-loop-text
-invariant-loop-text l =
-    l.out.items ++ table_bytes (texts_under l.text-iterator) ≡ l.initial.out.items ++ table_bytes (texts_under l.initial.text-iterator)
