@@ -3,3 +3,4 @@ pub mod TypesFound
 pub mod RulesFound
 pub mod LowBytes
 pub mod FieldsRead
+pub mod FormsFound

@@ -1,2 +1,3 @@
 pub mod Rules
 pub mod FieldLaws
+pub mod Forms

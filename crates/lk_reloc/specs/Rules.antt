@@ -16,7 +16,7 @@ use Rattle.lk_reloc.specs.declared.rules.Rule.{Rule}
 
 -- the number of a type
 abbrev pub number_of : RelocationType → ℕ
-number_of type.Nothing = 0
+number_of type.NoRelocation = 0
 number_of type.Word64 = 1
 number_of type.Pc32 = 2
 number_of type.Plt32 = 4
@@ -40,20 +40,21 @@ number_of type.Size64 = 33
 number_of type.GotPcRelX = 41
 number_of type.RexGotPcRelX = 42
 
--- what a value is made of, in lk_model's words
+-- what a value is made of, as a formula of lk_model
 abbrev pub formula_in_model : Formula → RowFormula
-formula_in_model formula.Nothing = NoValue
+formula_in_model formula.NoValue = NoValue
 formula_in_model formula.Absolute = Absolute
 formula_in_model formula.Relative = Relative
 formula_in_model formula.PltRelative = PltRelative
 formula_in_model formula.SlotRelative = SlotRelative
+formula_in_model formula.ThreadSlotRelative = SlotRelative
 formula_in_model formula.GotOffset = GotOffset
 formula_in_model formula.GotRelative = GotRelative
 formula_in_model formula.SymbolSize = SymbolSize
 formula_in_model formula.DtpOffset = DtpOffset
 formula_in_model formula.TpOffset = TpOffset
 
--- which values a field takes, in lk_model's words
+-- which values a field takes, as a test of lk_model
 abbrev pub test_in_model : RangeTest → RowTest
 test_in_model test.Any = AnyValue
 test_in_model test.BySign = SignExtended

@@ -9,14 +9,14 @@ ghost use Rattle.lk_model.specs.Values.{fits};
 use crate::ranges::fits;
 use crate::rules::rule_of;
 
-/// A value that the field of its relocation does not take.
+/// A value that the field of its relocation does not take (psABI x86-64, "Relocation Types").
 #[derive(Clone, Copy, PartialEq, Eq, Debug)]
 pub struct Overflow {
     /// The value, modulo 2^64.
     pub value: u64,
 }
 
-/// Writes bytes at a place.
+/// Writes bytes at an offset.
 fn write_at(bytes: &mut [u8], at: usize, field: &[u8])
     requires { at + length field.now ≤ length bytes.old }
     ensures { bytes.new ≡ patch bytes.old at field.now }
@@ -31,7 +31,7 @@ fn all_bytes(value: u64) -> [u8; 8]
     value.to_le_bytes()
 }
 
-/// Writes the low bytes of a value at a place, the lowest first.
+/// Writes the low bytes of a value at an offset, the lowest first.
 #[tactic(auto, using(crate::proofs::LowBytes::low_bytes))]
 fn write_low_bytes(bytes: &mut [u8], at: usize, width: usize, value: u64)
     requires narrow { width ≤ 8 }
@@ -41,9 +41,10 @@ fn write_low_bytes(bytes: &mut [u8], at: usize, width: usize, value: u64)
     write_at(bytes, at, &all_bytes(value)[..width]);
 }
 
-/// Writes the value of a relocation into its field, which begins at `at`: the low bytes of the value, the
-/// lowest first, as many as the type with the number `code` has (psABI x86-64, "Relocation Types"). Type
-/// `R_X86_64_NONE`, and a number that no type has, write nothing.
+/// Writes the value of a relocation into its field (psABI x86-64, "Relocation Types"). The field begins at
+/// offset `at` of the bytes and has the width of the type (`r_type`) that `code` is; the low bytes of the
+/// value are written, the lowest first. `R_X86_64_NONE`, and a number that no type that is linked has, write
+/// nothing.
 ///
 /// # Errors
 /// A value that the field does not take. Every byte is then as before.

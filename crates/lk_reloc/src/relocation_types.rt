@@ -4,64 +4,65 @@ ghost use Rattle.std.specs.Prelude.{◌≡◌, None, MatchOption};
 ghost use Rattle.lk_model.specs.RelocationTypes.{relocation_type_of};
 ghost use Rattle.lk_reloc.specs.Rules.{number_of};
 
-/// A relocation type, `R_X86_64_` and its name. S is the symbol, A the addend, P the place.
+/// A relocation type that is linked (psABI x86-64, "Relocation Types"). The name in the psABI is `R_X86_64_`
+/// and the name that is given here; what a type does is its `rule`.
 #[derive(Clone, Copy)]
-pub(crate) enum RelocationType {
-    /// `NONE`: nothing is written.
-    Nothing,
-    /// `64`: S + A.
+pub enum RelocationType {
+    /// `NONE`.
+    NoRelocation,
+    /// `64`.
     Word64,
-    /// `PC32`: S + A - P.
+    /// `PC32`.
     Pc32,
-    /// `PLT32`: the PLT entry + A - P.
+    /// `PLT32`.
     Plt32,
-    /// `GOTPCREL`: the GOT slot + A - P.
+    /// `GOTPCREL`.
     GotPcRel,
-    /// `32`: S + A, which zeros extend.
+    /// `32`.
     Word32,
-    /// `32S`: S + A, which its sign extends.
+    /// `32S`.
     Signed32,
-    /// `16`: S + A.
+    /// `16`.
     Word16,
-    /// `PC16`: S + A - P.
+    /// `PC16`.
     Pc16,
-    /// `8`: S + A.
+    /// `8`.
     Word8,
-    /// `PC8`: S + A - P.
+    /// `PC8`.
     Pc8,
-    /// `DTPOFF64`: S + A - the start of the thread-local block.
+    /// `DTPOFF64`.
     DtpOff64,
-    /// `TPOFF64`: S + A - the end of the thread-local block.
+    /// `TPOFF64`.
     TpOff64,
-    /// `DTPOFF32`: as `DTPOFF64`.
+    /// `DTPOFF32`.
     DtpOff32,
-    /// `GOTTPOFF`: the GOT slot of a thread offset + A - P.
+    /// `GOTTPOFF`.
     GotTpOff,
-    /// `TPOFF32`: as `TPOFF64`.
+    /// `TPOFF32`.
     TpOff32,
-    /// `PC64`: S + A - P.
+    /// `PC64`.
     Pc64,
-    /// `GOTOFF64`: S + A - the GOT.
+    /// `GOTOFF64`.
     GotOff64,
-    /// `GOTPC32`: the GOT + A - P.
+    /// `GOTPC32`.
     GotPc32,
-    /// `SIZE32`: the symbol's size + A.
+    /// `SIZE32`.
     Size32,
-    /// `SIZE64`: the symbol's size + A.
+    /// `SIZE64`.
     Size64,
-    /// `GOTPCRELX`: as `GOTPCREL`.
+    /// `GOTPCRELX`.
     GotPcRelX,
-    /// `REX_GOTPCRELX`: as `GOTPCREL`.
+    /// `REX_GOTPCRELX`.
     RexGotPcRelX,
 }
 
 impl RelocationType {
-    /// The type with a number; none where no type that is linked has it.
-    pub(crate) fn with_number(code: u32) -> Option<Self>
-        ensures { MatchOption result (relocation_type_of code ≡ None) (λ t. code ≡ number_of t) }
+    /// The type with the number `r_type`; none where no type that is linked has it.
+    pub fn with_number(r_type: u32) -> Option<Self>
+        ensures { MatchOption result (relocation_type_of r_type ≡ None) (λ t. r_type ≡ number_of t) }
     {
-        match code {
-            0 => Some(Self::Nothing),
+        match r_type {
+            0 => Some(Self::NoRelocation),
             1 => Some(Self::Word64),
             2 => Some(Self::Pc32),
             4 => Some(Self::Plt32),

@@ -17,7 +17,7 @@ fn sum(base: u64, addend: i64) -> u64
     base.wrapping_add(addend.cast_unsigned())
 }
 
-/// How far a number and an addend are above another number.
+/// A number and an addend, less another number.
 fn distance(base: u64, addend: i64, from: u64) -> u64
     ensures { result ≡ minus (plus base (unsigned64 addend)) from }
 {
@@ -29,11 +29,11 @@ fn value_by(formula: Formula, n: Numbers) -> u64
     ensures { result ≡ value_by (formula_in_model formula) n }
 {
     match formula {
-        Formula::Nothing => 0,
+        Formula::NoValue => 0,
         Formula::Absolute => sum(n.s, n.a),
         Formula::Relative => distance(n.s, n.a, n.p),
         Formula::PltRelative => distance(n.l, n.a, n.p),
-        Formula::SlotRelative => distance(n.slot, n.a, n.p),
+        Formula::SlotRelative | Formula::ThreadSlotRelative => distance(n.slot, n.a, n.p),
         Formula::GotOffset => distance(n.s, n.a, n.got),
         Formula::GotRelative => distance(n.got, n.a, n.p),
         Formula::SymbolSize => sum(n.z, n.a),
@@ -42,8 +42,8 @@ fn value_by(formula: Formula, n: Numbers) -> u64
     }
 }
 
-/// The value of a relocation whose type has this number, modulo 2^64; 0 for `R_X86_64_NONE`, and for a
-/// number that no type has (psABI x86-64, "Relocation Types").
+/// The value of a relocation whose type (`r_type`) is `code`, modulo 2^64; 0 for `R_X86_64_NONE`, and for a
+/// number that no type that is linked has (psABI x86-64, "Relocation Types").
 pub fn value(code: u32, numbers: &Numbers) -> u64
     ensures { result ≡ value_of code numbers.now }
 {

@@ -5,4 +5,4 @@ use Rattle.lk_reloc.proofs.relocation_types.RelocationType.with_number.Goals as 
 
 pub returns-in_default : goal.returns-in_default
 unfolding relocation_types
-returns-in_default c = no_type c.args.code (search rules)
+returns-in_default c = no_type c.args.r_type (search rules)
