@@ -6,3 +6,4 @@ pub mod RunPaths
 pub mod Inputs
 pub mod Commands
 pub mod Parsing
+pub mod CommandStatuses

@@ -5,7 +5,7 @@ use Rattle.lk_model.specs.Grammar.{grammar}
 use Rattle.lk_command.specs.declared.command_faults.CommandFault.{CommandFault}
 use Rattle.lk_command.specs.declared.command_faults.CommandFault.TheVariants as faults
 
--- the command is the one that the grammar has for the words, the fault of usage is their first; want of
+-- the command is the one that the grammar has for the words, the fault of usage is their first; out of
 -- memory is tied to no words
 abbrev pub ParseGives : List (List ℕ) → Result Command CommandFault → Type 0
 ParseGives words (Ok command) = grammar words ≡ Ok command

@@ -1,4 +1,4 @@
--- This project's own: what a table of words says of a word.
+-- This project's own: the meaning that a table of words gives a word.
 use Rattle.std.specs.Prelude.{ℕ, List, find, length, drop, bytes_eq, nat_eq, option_map, Option}
 use Rattle.std.specs.List.{starts_with}
 use Rattle.std.specs.Borrow.{Bor}
@@ -20,7 +20,7 @@ beginning_seen row = (row.text.now, valued_seen row.option)
 abbrev pub pair_seen : Valued × Bor (List ℕ) → grammar.Valued × List ℕ
 pair_seen pair = (valued_seen pair.0, pair.1.now)
 
--- what the first row of a word says of it
+-- the meaning in the first row of a word
 abbrev pub meaning_in : List (List ℕ × grammar.Meaning) → List ℕ → Option grammar.Meaning
 meaning_in rows word =
     option_map (λ (row : List ℕ × grammar.Meaning). row.1) (find (λ (row : List ℕ × grammar.Meaning). bytes_eq row.0 word) rows)

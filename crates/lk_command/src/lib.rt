@@ -15,6 +15,7 @@
 #![tactic(auto)]
 
 mod command_faults;
+mod command_statuses;
 mod faults;
 mod inputs;
 mod meanings;

@@ -51,7 +51,7 @@ fn options_of(
     })
 }
 
-/// What the phrases of a command say.
+/// The command of phrases without a fault.
 fn command_of(alloc: Global, phrases: &[Phrase<'_>]) -> Result<Command, NoMemory>
     ensures { IfOk result (λ command. command ≡ command_by (fold values_after at_first (map phrase_seen phrases.now)) (map phrase_seen phrases.now)) }
 {
@@ -68,7 +68,7 @@ fn command_of(alloc: Global, phrases: &[Phrase<'_>]) -> Result<Command, NoMemory
 }
 
 /// The command that words are (own). The words are the arguments of the program in their order, without its
-/// name; they may hold any bytes, and a command copies the texts that it keeps.
+/// name; they may have any bytes, and a command copies the texts that it keeps.
 ///
 /// # Errors
 /// `Usage`: the first fault of the words, with the number of the word that has it, from 1. A word or a

@@ -21,7 +21,7 @@ pub(crate) struct Given<'a> {
     /// The number of the option's word.
     pub number: u32,
     pub option: Valued,
-    /// The number of the word that holds the value.
+    /// The number of the word that has the value.
     pub at: u32,
     /// `None` where no word is left for it.
     pub value: Option<&'a [u8]>,

@@ -1,4 +1,4 @@
-//! The words that are options (own): two tables, and what they say of a word.
+//! The words that are options (own): two tables, and the meaning that they give a word.
 
 ghost use Rattle.std.specs.Prelude.{◌≡◌, map, option_map};
 ghost use Rattle.lk_model.specs.Grammar.{beginnings, holds_zero, is_path, meaning_of as meaning_model, whole_words};
@@ -151,7 +151,7 @@ fn begins_as_path(text: &[u8]) -> bool
     }
 }
 
-/// What the first row of a word says of it.
+/// The meaning in the first row of a word.
 fn row_of(rows: &[WholeWord], word: &[u8]) -> Option<Meaning<'static>>
     ensures { option_map meaning_seen result ≡ meaning_in (map row_seen rows.now) word.now }
 {
@@ -189,7 +189,7 @@ fn joined_value(word: &[u8]) -> Option<(Valued, &[u8])>
     value_of(&BEGINNINGS, word)
 }
 
-/// What a word means. One that holds a zero byte means nothing; an input's path begins with no dash, so
+/// What a word means. One with a zero byte means nothing; an input's path begins with no dash, so
 /// only a word with a dash is looked up.
 pub(crate) fn meaning_of(word: &[u8]) -> Meaning<'_>
     ensures { meaning_seen result ≡ meaning_model word.now }

@@ -1,4 +1,4 @@
--- This project's own: what the output device holds, and what each of its calls makes of it.
+-- This project's own: the state of the output device, and what each of its calls makes of it.
 use Rattle.std.specs.Prelude.{◌≡◌, ◌≤◌, ◌+◌, ◌++◌, ◌∷◌, [], ◌⊎◌, ℕ, List, length, take, drop, max, Option, Some, None, option_map, IfSome}
 use Rattle.std.specs.Option.{ForSome}
 use Rattle.lk_report.specs.Spoken.{Rose}
@@ -45,7 +45,7 @@ pub record PartlyPatched (at size : ℕ) (old new : Stored) : Type 0 where
   pub not_longer : length new.bytes ≤ max (length old.bytes) (at + size)
   pub noted : (new.written ≡ old.written) ⊎ (new.written ≡ old.written ++ (at, size) ∷ [])
 
--- the same of a device that may tell nothing
+-- the same of a device that may report no bytes
 abbrev pub MaybePatched : ℕ → ℕ → Option Stored → Option Stored → Type 0
 MaybePatched at size None None = Unit {0}
 MaybePatched at size (Some old) (Some new) = PartlyPatched at size old new

@@ -1,4 +1,4 @@
--- This project's own: what the input files hold, and what a look-up and a read make of it.
+-- This project's own: the state of the input files, and what a look-up and a read make of it.
 use Rattle.std.specs.Prelude.{◌≡◌, ◌++◌, ◌∷◌, [], ◌⊎◌, ℕ, List, Option, Some, None, option_map, IfSome}
 use Rattle.lk_report.specs.FileMap.{FileMap}
 use Rattle.lk_report.specs.Spoken.{Rose}

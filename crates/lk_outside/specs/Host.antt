@@ -1,4 +1,4 @@
--- This project's own: what the host's objects tell, which is their counts alone.
+-- This project's own: what the host's objects report, which is their counts alone.
 use Rattle.std.specs.Prelude.{ℕ, ℤ, pos, ◌*ℤ◌, ◌+ℤ◌, None}
 use Rattle.lk_report.specs.Spoken.{Spoken}
 use Rattle.lk_outside.specs.FilesState.{FilesState}

@@ -20,7 +20,7 @@ pub enum LengthAnswer {
 /// A device that reports its bytes asks its callers for ranges that lie in the file, so that no caller
 /// makes a fault by itself. One that reports nothing answers Failed there and counts it.
 pub trait Device {
-    /// What the file holds, which ranges were written, and how often a call failed.
+    /// The file's bytes, the ranges that were written, and how often a call failed.
     ghost disk: { Self → Disk };
 
     /// The file's length.

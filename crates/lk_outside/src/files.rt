@@ -33,7 +33,7 @@ pub enum ReadAnswer {
 /// The input files. Its meaning is a map from paths to bytes and stamps with the paths asked for,
 /// where it reports these, and two counts that never fall: the faults and the misses.
 pub trait Files {
-    /// What the files hold, which paths were asked for, and the counts.
+    /// The map of the files, the paths that were asked for, and the counts.
     ghost state: { Self → FilesState };
 
     /// Looks a path up without reading the file.

@@ -1,17 +1,17 @@
 //! The outside of the linker: input files, the output file, text, and the gate of the tasks.
 //!
 //! The layers above meet all of these through traits. What comes in are paths and ranges of bytes;
-//! what goes out are answers by cases. The contracts cite what an object holds: `FilesState` in
-//! specs/Held.antt for the files, `Disk` in specs/Disk.antt for the output, and lk_report's `Spoken`
-//! for text.
+//! what goes out are answers by cases. The contracts cite the state of an object: `FilesState` in
+//! specs/FilesState.antt for the files, `Disk` in specs/Disk.antt for the output, and lk_report's
+//! `Spoken` for text.
 //!
 //! Callers rely on one law: a call answers Failed only where the object's count of faults rose in
 //! that call, and any other answer leaves the count as it was. So an answer that names a fault can
 //! be kept against a count.
 //!
-//! Objects in memory tell all that they hold, and can be reported to fail at a call (the Sure ones fail
-//! for out of memory alone). The host's objects are a thin edge over std's files and standard
-//! output, which is trusted: they tell nothing and count their failures.
+//! Objects in memory report their whole state, and can be set to fail at a call (the Sure ones fail
+//! by out of memory alone). The host's objects are a thin edge over std's files and standard output,
+//! which is trusted: they report no state but the counts of their failures.
 #![tactic(auto)]
 
 mod calls;

@@ -10,7 +10,7 @@ use lk_report::{Answer, Bytes, NoMemory};
 use std::alloc::Global;
 use std::marker::Model;
 
-/// An output file that is kept in memory, and can be reported to fail at a call.
+/// An output file that is kept in memory, and can be set to fail at a call.
 #[derive(Drop, Debug)]
 pub struct MemoryDevice {
     bytes: Vec<u8>,

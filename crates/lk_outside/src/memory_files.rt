@@ -18,7 +18,7 @@ use lk_report::{Bytes, List, Name, NameList, NoMemory, Stamp};
 use std::alloc::Global;
 use std::marker::Model;
 
-/// Files that are kept in memory, and can be reported to fail at a call.
+/// Files that are kept in memory, and can be set to fail at a call.
 #[derive(Drop, Debug)]
 pub struct MemoryFiles {
     alloc: Global,
@@ -76,8 +76,8 @@ impl MemoryFiles {
         self.calls.failing = Some(n);
     }
 
-    /// Sets a path's bytes and stamp, in place of an earlier file of this path. Unchanged after want
-    /// of memory.
+    /// Sets a path's bytes and stamp, in place of an earlier file of this path. Unchanged after
+    /// out of memory.
     pub fn put(&mut self, path: &str, bytes: Bytes, stamp: Option<Stamp>) -> Result<(), NoMemory>
         ensures set { OnOk result (SetsRow self.old.entries self.new.entries path.now
             (record { bytes = bytes; stamp = stamp })) }
@@ -103,8 +103,8 @@ fn entry_of<'a>(entries: &'a [FileEntry], path: &Name) -> Option<&'a FileEntry>
     entries.iter().find(|entry| entry.path == *path)
 }
 
-/// Puts a file in the place of one of the same path, else at the end. Unchanged after want of
-/// memory.
+/// Puts a file in the place of one of the same path, else at the end. Unchanged after out
+/// of memory.
 fn put_entry(entries: &mut Vec<FileEntry>, entry: FileEntry) -> Result<(), NoMemory>
     ensures set { OnOk result (SetsRow entries.old.items entries.new.items entry.path (row_of entry)) }
     ensures unchanged { OnErr result (entries.new.items ≡ entries.old.items) }

@@ -9,7 +9,7 @@ use lk_report::{Answer, Sink};
 use std::alloc::Global;
 use std::marker::Model;
 
-/// A sink that keeps its bytes in memory, and can be reported to fail at a call.
+/// A sink that keeps its bytes in memory, and can be set to fail at a call.
 #[derive(Drop, Debug)]
 pub struct MemorySink {
     bytes: Vec<u8>,

@@ -1,4 +1,4 @@
-//! The output file kept in memory, which fails for out of memory alone.
+//! The output file kept in memory, which fails by out of memory alone.
 
 ghost use Rattle.std.specs.Prelude.{◌≡◌, ◌≤◌, ◌+◌, [], length as list_length};
 ghost use Rattle.lk_outside.specs.Disk.{LengthGives, ReadAtGives, WriteAtGives, CutGives, SyncGives};

@@ -42,8 +42,8 @@ impl SureFiles {
         }
     }
 
-    /// Sets a path's bytes and stamp, in place of an earlier file of this path. Unchanged after want
-    /// of memory.
+    /// Sets a path's bytes and stamp, in place of an earlier file of this path. Unchanged after
+    /// out of memory.
     pub fn put(&mut self, path: &str, bytes: Bytes, stamp: Option<Stamp>) -> Result<(), NoMemory>
         ensures set { OnOk result (SetsRow self.old.entries self.new.entries path.now
             (record { bytes = bytes; stamp = stamp })) }

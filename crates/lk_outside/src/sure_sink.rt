@@ -1,4 +1,4 @@
-//! Text kept in memory, which fails for out of memory alone.
+//! Text kept in memory, which fails by out of memory alone.
 
 ghost use Rattle.std.specs.Prelude.{◌≡◌, []};
 ghost use Rattle.lk_report.specs.Spoken.{Puts};
