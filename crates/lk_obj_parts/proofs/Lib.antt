@@ -2,7 +2,6 @@ pub mod ClosedTexts
 pub mod FaultParts
 pub mod FaultsFirst
 pub mod Headers
-pub mod NamesUnder
 pub mod Rows
 pub mod SymbolFaults
 pub mod SymbolRows
@@ -17,12 +16,10 @@ pub mod OverlapsReported
 pub mod RelocationTargets
 pub mod RowFaults
 pub mod RowsGathered
-pub mod TypeWidths
 pub mod GroupLists
 pub mod GroupsMarked
 pub mod GroupWords
 pub mod NamedGroups
-pub mod PieceTypes
 pub mod RisingFields
 pub mod NoGroups
 pub mod MarkedRows

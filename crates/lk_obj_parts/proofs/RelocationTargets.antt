@@ -14,6 +14,8 @@ use Rattle.lk_model.specs.ObjectChecks.{is_symbol_table}
 use Rattle.lk_model.specs.Objects.{is_piece_in}
 use Rattle.lk_model.specs.Pieces.{is_piece, key_of}
 use Rattle.lk_model.specs.Views.{Elf}
+use Rattle.lk_outsec.specs.PieceTypes.{may_be_piece}
+use Rattle.lk_outsec.proofs.PieceTypes.{no_piece}
 use Rattle.lk_obj_parts.specs.ElfViews.{elf_from, header_at}
 use Rattle.lk_obj_parts.specs.RelocationParts.{is_piece_named, table_number}
 use Rattle.lk_obj_parts.proofs.Headers.{section_reported}
@@ -71,3 +73,8 @@ same-number (Some row) n = refl
 
 pub is_table_reported : (elf : Elf) (n : ℕ) → is_symbol_table elf n ≡ is_some_with (λ k. k == n) (table_number 1 (drop 1 elf.sections))
 is_table_reported elf n = same-number (symbol_table elf) n
+
+-- a section whose type and flags rule a piece out is none, whether or not it has a name
+pub none_named : (header : Shdr) (name : Option (List ℕ)) → may_be_piece header.sh_type header.sh_flags ≡ false → is_piece_named (Some header) name ≡ false
+none_named header None e = refl
+none_named header (Some name) e = no_piece name header.sh_type header.sh_flags e

@@ -1,4 +1,3 @@
-pub mod CommonNames
 pub mod ElfViews
 pub mod SectionParts
 pub mod SymbolParts
@@ -10,5 +9,4 @@ pub mod GroupLists
 pub mod GroupMarks
 pub mod GroupParts
 pub mod SymbolTables
-pub mod PieceTypes
 pub mod RisingFields

@@ -1,12 +1,11 @@
 -- The entries of a section of relocations among the bytes of a file (gABI "Relocation"), each with its
--- number; and the width of a field by its type, looked up row by row.
-use Rattle.std.specs.Prelude.{ℕ, zero, suc, ◌+◌, ◌*◌, ◌/◌, ◌==◌, if◌then◌else◌, cond, List, [], ◌∷◌}
+-- number.
+use Rattle.std.specs.Prelude.{ℕ, zero, suc, ◌+◌, ◌*◌, ◌/◌, if◌then◌else◌, List, [], ◌∷◌}
 use Rattle.lk_elf.specs.Numbers.{rela_size}
 use Rattle.lk_elf.specs.Records.{rela_at}
 use Rattle.lk_elf.specs.declared.relocation.Rela.{Rela}
 use Rattle.lk_elf.specs.declared.section_header.Shdr.{Shdr}
 use Rattle.lk_model.specs.Elf.{lies_in}
-use Rattle.lk_model.specs.RelocationTypes.{RelocationType}
 
 -- how many entries of 24 bytes a section has in the file; none where its bytes do not lie in it
 abbrev pub entry_count : List ℕ → Shdr → ℕ
@@ -20,8 +19,3 @@ entry_at bytes header k = rela_at bytes (header.sh_offset + rela_size * k)
 abbrev pub entries_from : List ℕ → Shdr → ℕ → ℕ → List (ℕ × Rela)
 entries_from bytes header k zero = []
 entries_from bytes header k (suc m) = (k, entry_at bytes header k) ∷ entries_from bytes header (k + 1) m
-
--- the width of a type among these rows, 0 for a number that no row has
-abbrev pub width_among : List RelocationType → ℕ → ℕ
-width_among [] code = 0
-width_among (t ∷ ts) code = cond (t.code == code) t.width (width_among ts code)

@@ -1,8 +1,8 @@
 //! The checks of groups (gABI "Section Groups"): each group by itself, and that no section is a member of
 //! two.
 //!
-//! Problem: tens of thousands of groups, none of which may name a section that an earlier one names. A list
-//! of what was claimed would hold each group against each other. Steps: one mark for each section, none
+//! Problem: tens of thousands of groups, none of which may name a section that an earlier one names. With a
+//! list of what was claimed each group would be compared with each other. Steps: one mark for each section, none
 //! set; group after group, by rising section number, is checked against the marks, and then its members are
 //! marked. A member twice in one group is no fault: its group marks once it has been checked. Cost: one
 //! look at each word of each group, and one byte for each section.

@@ -1,9 +1,10 @@
-//! Objects are read part by part: any bytes come in, and out comes what a relocatable object holds as the
-//! gABI means it, or the first of the named faults of that part with its place.
+//! Objects are read part by part (gABI "Object Files"): any bytes come in, and out comes a part of the
+//! relocatable object, or the first fault of that part with its place.
 //!
 //! The parts: the section table (`read_sections`, `table_fault`, `sections_fault`), the symbols
 //! (`read_symbols`, `symbol_table_fault`, `symbols_fault`, `globals_of`, `local_of`), the relocations
-//! (`relas_under`, `rela_faults`, `overlap_fault`), the groups (`groups_fault`, `groups_of`).
+//! (`relas_under`, `rela_faults`, `overlap_fault`), the groups (`groups_fault`, `groups_of`). Which sections are
+//! pieces lk_outsec says, and how wide a field is lk_reloc.
 //! Each contract cites the definition of that name in lk_model (Elf, Pieces, Objects, ObjectChecks), at
 //! the file that `elf_from` in specs/ElfViews makes of the bytes and of what was read from them.
 //!
@@ -15,7 +16,6 @@ mod file_table;
 mod group_checks;
 mod groups;
 mod overlaps;
-mod pieces;
 mod relocation_checks;
 mod relocations;
 mod rising_fields;
@@ -31,9 +31,8 @@ pub use file_table::read_sections;
 pub use group_checks::groups_fault;
 pub use groups::{groups_of, word_under};
 pub use overlaps::overlap_fault;
-pub use pieces::{key_of, may_be_piece};
 pub use relocation_checks::rela_faults;
-pub use relocations::{relas_under, width_of};
+pub use relocations::relas_under;
 pub use section_checks::{sections_fault, table_fault};
 pub use signatures::signature_of;
 pub use symbol_checks::{symbol_table_fault, symbols_fault};

@@ -19,11 +19,12 @@ ghost use Rattle.lk_obj_parts.specs.FieldMarks.{FieldsFit, RowsFit, fields_paint
 ghost use Rattle.lk_obj_parts.specs.RelocationParts.{rows_fault};
 ghost use Rattle.lk_obj_parts.specs.TargetRows.{TargetsFit, list_checks, room_with};
 
-use crate::relocations::{entry_at, entry_count, width_of};
+use crate::relocations::{entry_at, entry_count};
 use crate::rising_fields::{rows_rise, targets_rise};
 use crate::target_rows::{RowList, rows_by_target};
 use lk_elf::numbers::SHT_NOBITS;
 use lk_elf::{Ehdr, Shdr};
+use lk_reloc::width_of;
 use lk_report::{InputFault, NoMemory};
 use std::alloc::Global;
 
@@ -52,7 +53,7 @@ fn paint(marks: &mut [bool], mark: bool, at: usize, width: usize)
     }
 }
 
-/// Marks the fields of the relocations of section n, up to the first that meets a mark, which is reported.
+/// Marks the fields of the relocations of section n, up to the first that meets a mark, and reports that one.
 #[tactic(auto, using(crate::proofs::MarkSteps::site_here, crate::proofs::MarkSteps::no_site_here, crate::proofs::MarkSteps::no_site_left, crate::proofs::MarkSteps::site_painted, crate::proofs::MarkSteps::all_painted))]
 fn mark_fields(marks: &mut [bool], bytes: &[u8], n: u32, section: &Shdr) -> Option<InputFault>
     requires few { length bytes.now ≤ 24 * 2 ^ 32 }

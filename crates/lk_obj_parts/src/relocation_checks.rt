@@ -12,15 +12,16 @@ ghost use Rattle.lk_obj_parts.specs.RelocationEntries.{entry_count};
 ghost use Rattle.lk_obj_parts.specs.RelocationParts.{entry_checks_among, entry_faults, head_checks, rela_row_checks, table_number};
 ghost use Rattle.lk_obj_parts.specs.TargetRows.{TargetsFit};
 
-use crate::pieces::{is_piece, may_be_piece};
-use crate::relocations::{entry_at, entry_count, width_of};
+use crate::relocations::{entry_at, entry_count};
 use crate::texts::{header_at, section_name};
 use lk_elf::numbers::{RELA_SIZE, SHT_NOBITS, SHT_RELA, SHT_SYMTAB};
 use lk_elf::{Ehdr, Rela, Shdr, Sym};
+use lk_outsec::{is_piece, may_be_piece};
+use lk_reloc::width_of;
 use lk_report::InputFault;
 
 /// Whether a section, by its number, is a piece.
-#[tactic(auto, using(crate::proofs::RelocationTargets::piece_reported, crate::proofs::PieceTypes::none_named))]
+#[tactic(auto, using(crate::proofs::RelocationTargets::piece_reported, crate::proofs::RelocationTargets::none_named))]
 pub(crate) fn is_piece_in(bytes: &[u8], header: &Ehdr, sections: &[Shdr], n: u32) -> bool
     ensures { (symbols : List Sym) → result ≡ is_piece_in (elf_from bytes.now header.now sections.now symbols) n }
 {

@@ -1,10 +1,8 @@
-//! The relocations of a section (gABI "Relocation"; psABI x86-64 "Relocation Types"): its entries, read
-//! one by one or in one list, the symbol and the type of each, and the width of a type's field.
+//! The relocations of a section (gABI "Relocation"): its entries, read one by one or in one list.
 
 ghost use Rattle.std.specs.Prelude.{◌≡◌, ◌+◌, ◌*◌, ◌<◌, ◌≤◌, length, IfOk};
 ghost use Rattle.lk_elf.specs.Records.{rela_at};
 ghost use Rattle.lk_model.specs.Objects.{relas_under};
-ghost use Rattle.lk_model.specs.RelocationTypes.{width_of};
 ghost use Rattle.lk_model.specs.Views.{Elf};
 ghost use Rattle.lk_obj_parts.specs.RelocationEntries.{entry_at, entry_count};
 
@@ -13,39 +11,6 @@ use lk_elf::numbers::RELA_SIZE;
 use lk_elf::{Rela, Shdr};
 use lk_report::NoMemory;
 use std::alloc::Global;
-
-/// The width in bytes of the field of a relocation type; 0 for NONE and for a number that no type has.
-#[tactic(auto, using(crate::proofs::TypeWidths::width_reported), unfolding(lk_model::specs::RelocationTypes::relocation_types))]
-pub fn width_of(code: u32) -> u64
-    ensures value { result ≡ width_of code }
-    ensures short { result ≤ 8 }
-{
-    match code {
-        1 => 8,
-        2 => 4,
-        4 => 4,
-        9 => 4,
-        10 => 4,
-        11 => 4,
-        12 => 2,
-        13 => 2,
-        14 => 1,
-        15 => 1,
-        17 => 8,
-        18 => 8,
-        21 => 4,
-        22 => 4,
-        23 => 4,
-        24 => 8,
-        25 => 8,
-        26 => 4,
-        32 => 4,
-        33 => 8,
-        41 => 4,
-        42 => 4,
-        _ => 0,
-    }
-}
 
 /// How many entries a section of relocations has in the file; none where its bytes do not lie in it.
 pub(crate) fn entry_count(bytes: &[u8], header: &Shdr) -> usize

@@ -9,9 +9,10 @@ ghost use Rattle.std.specs.Prelude.{◌≡◌, ◌+◌, drop, nat_le};
 ghost use Rattle.std.specs.List.{list_all};
 ghost use Rattle.lk_obj_parts.specs.RisingFields.{fields_rise, is_apart, least_after, rows_rise, targets_rise};
 
-use crate::relocations::{entry_at, entry_count, width_of};
+use crate::relocations::{entry_at, entry_count};
 use lk_elf::Shdr;
 use lk_elf::numbers::SHT_RELA;
+use lk_reloc::width_of;
 
 /// Whether a field at `at` begins where an earlier one of this width ends, or later.
 fn is_behind(earlier: u64, width: u64, at: u64) -> bool

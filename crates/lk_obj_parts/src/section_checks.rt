@@ -12,7 +12,6 @@ ghost use Rattle.lk_obj_parts.specs.ElfViews.{elf_from, is_of_type_in};
 ghost use Rattle.lk_obj_parts.specs.SectionParts.{is_cut_off_in, named_checks, name_checks, place_checks};
 
 use crate::file_table::lies_in;
-use crate::pieces::{has_flag, is_piece, is_table_name, is_tail_name};
 use crate::texts::{header_at, section_name};
 use lk_elf::numbers::{
     ET_REL, SHDR_SIZE, SHF_ALLOC, SHF_COMPRESSED, SHT_FINI_ARRAY, SHT_INIT_ARRAY, SHT_NOBITS,
@@ -20,6 +19,7 @@ use lk_elf::numbers::{
     SHT_X86_64_UNWIND,
 };
 use lk_elf::{Ehdr, Shdr};
+use lk_outsec::{has_flag, is_piece, is_table_name, is_tail_name};
 use lk_report::InputFault;
 
 /// The powers of two up to 2^20, which alignments of input sections are.

@@ -132,7 +132,7 @@ pub(crate) fn signature_under<'a>(
     }
 }
 
-/// The signature of a group with this symbol; none for symbol 0, and where no name is reported.
+/// The signature of a group with this symbol; none for symbol 0, and where the symbol has no name.
 pub fn signature_of<'a>(
     bytes: &'a [u8],
     header: &Ehdr,

@@ -12,7 +12,6 @@ ghost use Rattle.lk_model.specs.ObjectChecks.{is_common, is_misplaced, is_tls, i
 ghost use Rattle.lk_obj_parts.specs.ElfViews.{elf_from, is_of_type_in};
 ghost use Rattle.lk_obj_parts.specs.SymbolParts.{checks_in, entry_checks, faults_from, form_checks, is_stray_tls_in, is_symbol_section_in, is_tls_section_in, name_in, refused_fault, refused_tables, side_checks, sort_checks, strings_named};
 
-use crate::pieces::has_flag;
 use crate::section_checks::{is_of_type, is_small_power};
 use crate::symbols::{is_local, name_in, symbol_table};
 use crate::texts::header_at;
@@ -21,6 +20,7 @@ use lk_elf::numbers::{
     STT_GNU_IFUNC, STT_TLS, SYM_SIZE,
 };
 use lk_elf::{Shdr, Sym};
+use lk_outsec::has_flag;
 use lk_report::InputFault;
 
 /// The fault of a symbol table after the first.

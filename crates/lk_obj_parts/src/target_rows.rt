@@ -34,7 +34,8 @@ fn no_rows(alloc: Global, count: usize) -> Result<Vec<RowList>, NoMemory>
     Ok(lists)
 }
 
-/// Whether the fields of a section of relocations share no byte, where the targets are reported to rise or not to.
+/// Whether the fields of a section of relocations are known to share no byte: `rise` says whether the targets
+/// rise, so that each has one such section at most.
 fn needs_no_marks(bytes: &[u8], rise: bool, section: &Shdr) -> bool
     ensures { result ≡ (rise && fields_rise bytes.now section.now) }
 {
@@ -71,7 +72,7 @@ fn put_row(
 }
 
 /// For each section, by its number, the sections of relocations on it that are to be marked, where it is a
-/// piece, and where the targets are reported to rise or not to.
+/// piece. `rise` says whether the targets rise.
 #[tactic(auto, using(crate::proofs::RowsGathered::row_put, crate::proofs::RowsGathered::all_put, crate::proofs::RowsGathered::none_yet))]
 pub(crate) fn rows_by_target(
     alloc: Global,

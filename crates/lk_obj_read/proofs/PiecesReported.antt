@@ -14,8 +14,8 @@ use Rattle.lk_model.specs.Pieces.{key_of}
 use Rattle.lk_model.specs.Views.{Elf}
 use Rattle.lk_obj_parts.specs.ElfViews.{elf_from}
 use Rattle.lk_obj_parts.specs.GroupMarks.{is_marked}
-use Rattle.lk_obj_parts.specs.PieceTypes.{may_be_piece}
-use Rattle.lk_obj_parts.proofs.PieceTypes.{no_key}
+use Rattle.lk_outsec.specs.PieceTypes.{may_be_piece}
+use Rattle.lk_outsec.proofs.PieceTypes.{no_key}
 use Rattle.lk_obj_parts.proofs.Rows.{rows_done, rows_next}
 use Rattle.lk_obj_parts.proofs.SymbolsUnread.{section_name_unread}
 use Rattle.lk_obj_read.specs.PieceParts.{MarksServe, stored_bytes, is_four_zeros, is_terminator_reported, piece_at, piece_reported, pieces_from}

@@ -9,8 +9,7 @@ ghost use Rattle.lk_model.specs.ObjectChecks.{object_fault};
 ghost use Rattle.lk_model.specs.Objects.{is_piece_in, local_in, piece_bytes_in, relocations_in, summary_in};
 ghost use Rattle.lk_model.specs.RelocationTypes.{width_of};
 ghost use Rattle.lk_model.specs.ScanFaults.{is_tls_section};
-ghost use Rattle.lk_elf.specs.RelocationInfo.{r_type_of};
-ghost use Rattle.lk_elf.specs.RelocationInfo.{r_symbol_of};
+ghost use Rattle.lk_elf.specs.RelocationInfo.{r_symbol_of, r_type_of};
 ghost use Rattle.lk_obj_parts.specs.TargetRows.{room_of};
 
 use crate::local_symbols::local_at;

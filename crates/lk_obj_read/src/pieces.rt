@@ -20,7 +20,8 @@ use lk_elf::numbers::SHT_NOBITS;
 use lk_elf::{Ehdr, Shdr};
 use lk_model::layouts::{Class, SectionKey};
 use lk_model::summaries::{PieceInfo, PieceInfoList};
-use lk_obj_parts::{key_of, may_be_piece, section_name};
+use lk_obj_parts::section_name;
+use lk_outsec::{key_of, may_be_piece};
 use lk_report::{Name, NoMemory};
 use std::alloc::Global;
 

@@ -8,7 +8,8 @@ use lk_elf::numbers::{
     SHF_ALLOC, SHF_EXECINSTR, SHF_WRITE, SHT_NOBITS, SHT_PROGBITS, SHT_RELA, SHT_STRTAB, SHT_SYMTAB,
 };
 use lk_elf::{Ehdr, Rela, Shdr};
-use lk_obj_parts::{overlap_fault, rela_faults, relas_under, width_of};
+use lk_obj_parts::{overlap_fault, rela_faults, relas_under};
+use lk_reloc::width_of;
 use lk_report::{InputFault, NoMemory};
 use std::alloc::Global;
 

@@ -10,7 +10,8 @@ use lk_elf::numbers::{
 };
 use lk_elf::{Ehdr, Shdr};
 use lk_model::layouts::{Class, SectionKey};
-use lk_obj_parts::{key_of, name_at, read_sections, section_name, sections_fault, table_fault};
+use lk_obj_parts::{name_at, read_sections, section_name, sections_fault, table_fault};
+use lk_outsec::key_of;
 use lk_report::{InputFault, NoMemory};
 use std::alloc::Global;
 

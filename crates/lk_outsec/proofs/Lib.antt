@@ -1,2 +1,4 @@
 pub mod Sorting
 pub mod PatchedExamples
+pub mod NamesUnder
+pub mod PieceTypes

@@ -1,0 +1,2 @@
+pub mod CommonNames
+pub mod PieceTypes

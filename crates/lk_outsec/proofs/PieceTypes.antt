@@ -1,13 +1,11 @@
 -- A section whose type and flags rule a piece out is none, whatever its name is.
-use Rattle.std.specs.Prelude.{◌≡◌, refl, ℕ, Bool, true, false, not, ◌&&◌, ◌||◌, cond, ◌==◌, bytes_eq, codes, List, Option, Some, None}
+use Rattle.std.specs.Prelude.{◌≡◌, refl, ℕ, Bool, true, false, not, ◌&&◌, ◌||◌, cond, ◌==◌, bytes_eq, codes, List, None}
 use Rattle.std.specs.Bool.{then_some}
 use Rattle.std.proofs.Common.{ap}
 use Rattle.lk_elf.specs.Numbers.{sht_progbits, shf_alloc}
-use Rattle.lk_elf.specs.declared.section_header.Shdr.{Shdr}
 use Rattle.lk_model.specs.Amounts.{has_flag}
 use Rattle.lk_model.specs.Pieces.{class_of, is_piece, is_reading_type, key_of, output_name}
-use Rattle.lk_obj_parts.specs.PieceTypes.{may_be_piece}
-use Rattle.lk_obj_parts.specs.RelocationParts.{is_piece_named}
+use Rattle.lk_outsec.specs.PieceTypes.{may_be_piece}
 
 ruled-out : (read alloc code x y : Bool) → (not read && (alloc || code)) ≡ false → (not read && cond alloc x (code && y)) ≡ false
 ruled-out true alloc code x y e = refl
@@ -24,8 +22,3 @@ pub no_key : (name : List ℕ) (code flags : ℕ) → may_be_piece code flags �
 unfolding key_of
 no_key name code flags e =
     ap (λ b. then_some b (record { name = output_name (class_of code flags) name; class = class_of code flags })) (no_piece name code flags e)
-
--- whether or not it has a name
-pub none_named : (header : Shdr) (name : Option (List ℕ)) → may_be_piece header.sh_type header.sh_flags ≡ false → is_piece_named (Some header) name ≡ false
-none_named header None e = refl
-none_named header (Some name) e = no_piece name header.sh_type header.sh_flags e

@@ -1,9 +1,9 @@
 -- Names that go on from others.
-use Rattle.std.specs.Prelude.{◌≡◌, refl, ℕ, Bool, true, false, ◌&&◌, List, [], ◌∷◌, ◌++◌, cond, drop, find, length, nat_eq, Option, Some, None, unwrap_or}
+use Rattle.std.specs.Prelude.{◌≡◌, refl, ℕ, Bool, true, false, ◌&&◌, ◌||◌, ◌+◌, bytes_eq, codes, nat_lt, List, [], ◌∷◌, ◌++◌, cond, drop, find, length, nat_eq, Option, Some, None, unwrap_or}
 use Rattle.std.specs.List.{starts_with}
 use Rattle.std.proofs.Common.{ap, ◌∙◌}
 use Rattle.lk_model.specs.Pieces.{common_name, common_names, goes_under}
-use Rattle.lk_obj_parts.specs.CommonNames.{array_names, first_names, name_of_parts, older_names}
+use Rattle.lk_outsec.specs.CommonNames.{array_names, first_names, name_of_parts, older_names}
 
 and-assoc : (a b c : Bool) → (a && (b && c)) ≡ ((a && b) && c)
 and-assoc true b c = refl
@@ -16,6 +16,15 @@ dotted [] (b ∷ base) c = refl
 dotted (x ∷ name) (b ∷ base) c =
     ap (λ t. nat_eq b x && t) (dotted name base c)
     ∙ and-assoc (nat_eq b x) (starts_with nat_eq name base) (starts_with nat_eq (drop (length base) name) (c ∷ []))
+
+-- a name that goes on by less than two bytes is under another only where it is the other
+pub short : (name base : List ℕ) → nat_lt (length base + 1) (length name) ≡ false → goes_under name base ≡ bytes_eq name base
+short name base e = go (bytes_eq name base) (starts_with nat_eq name (base ++ codes ".")) (nat_lt (length base + 1) (length name)) e
+  where
+    go : (same begins longer : Bool) → longer ≡ false → (same || (begins && longer)) ≡ same
+    go true begins longer e = refl
+    go false true longer e = e
+    go false false longer e = refl
 
 -- ---- the names that are taken for others, in three parts
 
