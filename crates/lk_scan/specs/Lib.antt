@@ -5,3 +5,4 @@ pub mod ReferralNeeds
 pub mod Noted
 pub mod Scans
 pub mod LinkScans
+pub mod ScanStatuses

@@ -14,7 +14,6 @@
 //! `NameMeanings` the symbols of a name are gone through once for a whole link.
 #![tactic(auto)]
 
-mod forms;
 mod laws;
 mod link_scans;
 mod local_targets;
@@ -24,6 +23,7 @@ mod need_sets;
 mod noting;
 mod referral_faults;
 mod reported_faults;
+mod scan_statuses;
 mod scans;
 mod slots;
 mod symbol_targets;

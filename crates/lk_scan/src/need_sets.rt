@@ -7,13 +7,13 @@ ghost use Rattle.lk_model.specs.NeedsOf.{got_key_eq};
 ghost use Rattle.lk_model.specs.Numbered.{with_new};
 ghost use Rattle.lk_scan.specs.ReferralNeeds.{is_addressed, is_copied, key_of, needs_of_import, needs_with, needs_with_slots, slot_of};
 
-use crate::forms::{is_address_form, is_got_form, is_plt_form, is_thread_slot_form};
 use crate::slots::Slot;
 use crate::targets::{Import, Referral, Way};
 use indexmap::IndexSet;
 use lk_elf::numbers::{STT_OBJECT, STT_TLS};
 use lk_model::layouts::{GotKey, GotKeyList, GotOwner, Needs};
 use lk_model::summaries::NumberList;
+use lk_reloc::{is_address_form, is_got_form, is_plt_form, is_thread_slot_form};
 use lk_report::{List, NoMemory};
 use std::alloc::Global;
 use std::marker::Model;

@@ -6,14 +6,14 @@ ghost use Rattle.lk_model.specs.Forms.{is_thread_offset};
 ghost use Rattle.lk_model.specs.ScanFaults.{with_fault};
 ghost use Rattle.lk_scan.specs.ReferralFaults.{direct_tls_of, dropped_on, empty_copy_of, faults_on, import_faults_on, is_empty_copy, is_refused, of_import, site_in, undefined_name_at, undefined_on, unsupported_on};
 
-use crate::forms::{
-    is_address_form, is_block_offset, is_got_form, is_known, is_none, is_size_form, is_thread_form,
-    is_thread_offset, is_thread_slot_form,
-};
 use crate::name_targets::import_at;
 use crate::reported_faults::ReportedNames;
 use crate::targets::{Import, Referral, Setting, Target, Way};
 use lk_elf::numbers::STT_OBJECT;
+use lk_reloc::{
+    is_address_form, is_block_offset, is_got_form, is_known, is_none, is_size_form, is_thread_form,
+    is_thread_offset, is_thread_slot_form,
+};
 use lk_report::{Fault, Name, NoMemory};
 use lk_symtab::SymTab;
 
