@@ -134,13 +134,13 @@ this_row : (b : Bool) (row : SectionRow) (o : Option SectionRow) → cond b (Som
 this_row true row o = refl
 this_row false row o = refl
 
-module _ (got_content : ℕ → Bool) (test : SectionRow → Bool) (name : List ℕ) where
-  rows_reported : (n : ℕ) (rows : List SectionRow) → ((i : ℕ) (row : SectionRow) → slice_get rows i ≡ Some row → test row ≡ got_content (n + i))
-      → bound_from got_content n rows name ≡ option_map bound_of_row (find (λ (row : SectionRow). bytes_eq row.key.name name && not (class_number row.key.class == class_number N) && test row) rows)
+module _ (has_piece : ℕ → Bool) (test : SectionRow → Bool) (name : List ℕ) where
+  rows_reported : (n : ℕ) (rows : List SectionRow) → ((i : ℕ) (row : SectionRow) → slice_get rows i ≡ Some row → test row ≡ has_piece (n + i))
+      → bound_from has_piece n rows name ≡ option_map bound_of_row (find (λ (row : SectionRow). bytes_eq row.key.name name && not (class_number row.key.class == class_number N) && test row) rows)
   rows_reported n [] is = refl
   rows_reported n (row ∷ rows) is =
-      let now : test row ≡ got_content n = is 0 row refl ∙ (let e : n + 0 ≡ n = omega arith in ap got_content e) in
-      let later = rows_reported (n + 1) rows (λ i x at. is (suc i) x at ∙ (let e : n + suc i ≡ n + 1 + i = omega arith in ap got_content e)) in
+      let now : test row ≡ has_piece n = is 0 row refl ∙ (let e : n + 0 ≡ n = omega arith in ap has_piece e) in
+      let later = rows_reported (n + 1) rows (λ i x at. is (suc i) x at ∙ (let e : n + suc i ≡ n + 1 + i = omega arith in ap has_piece e)) in
       (λ i. cond ((not (same_class row.key.class N) && sym now i) && bytes_eq row.key.name name) (Some (bound_of_row row)) (later i))
       ∙ ap (λ b. cond b (Some (bound_of_row row)) (option_map bound_of_row (find (λ (row : SectionRow). bytes_eq row.key.name name && not (class_number row.key.class == class_number N) && test row) rows))) (turned (not (same_class row.key.class N)) (test row) (bytes_eq row.key.name name))
       ∙ this_row (bytes_eq row.key.name name && not (class_number row.key.class == class_number N) && test row) row (find (λ (row : SectionRow). bytes_eq row.key.name name && not (class_number row.key.class == class_number N) && test row) rows)

@@ -1,4 +1,4 @@
--- What the tables tell is what lk_model finds in the placement.
+-- The look-ups of the tables give what lk_model finds in the placement.
 use Rattle.std.proofs.Common.{◌≡◌, refl, ap, ◌∙◌, arith, ℕ, suc, ◌+◌, ◌*◌, ◌==◌, nat_lt, not, Bool, true, false, cond, List, [], ◌∷◌, length, find, position, Option, Some, None, codes}
 use Rattle.std.proofs.lemmas.Bool.Decides.{nat_tests}
 use Rattle.std.specs.List.{position_or_len}

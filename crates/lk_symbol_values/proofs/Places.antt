@@ -69,10 +69,10 @@ room_stop row = row.offset + row.room
 
 stored_stop : (place : Placement) → AllByRecursion (λ (row : SectionRow). in_file row.key.class ≡ true → room_stop row ≤ tail_start place) place.sections
 stored_stop place =
-    let got_content = λ (row : SectionRow). in_file row.key.class in
-    let stops = map room_stop (filter got_content place.sections) in
-    all_unfiltered (λ (row : SectionRow). room_stop row ≤ tail_start place) got_content place.sections
-    (all_of_map room_stop (λ n. n ≤ greatest stops) (filter got_content place.sections) (below_greatest stops))
+    let row_in_file = λ (row : SectionRow). in_file row.key.class in
+    let stops = map room_stop (filter row_in_file place.sections) in
+    all_unfiltered (λ (row : SectionRow). room_stop row ≤ tail_start place) row_in_file place.sections
+    (all_of_map room_stop (λ n. n ≤ greatest stops) (filter row_in_file place.sections) (below_greatest stops))
 
 abbrev IsSmall : SectionRow → Type 0
 IsSmall row = room_end row < 2 ^ 64

@@ -66,7 +66,7 @@ stored_low summaries place (winner.Weak i k) n s = refl
 stored_low summaries place winner.Made n s = refl
 stored_low summaries place (winner.Import i k) n s = refl
 
--- a symbol of an input that is there
+-- a symbol of an input with a number
 abbrev symbol_with : ℕ → Option InputSummary → Option Global
 symbol_with symbol None = None
 symbol_with symbol (Some x) = find (has_number symbol) x.globals

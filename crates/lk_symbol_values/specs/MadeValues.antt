@@ -26,12 +26,12 @@ bound_of_row row = record { start = low_64 row.addr; end = low_64 (row.addr + ro
 
 -- whether the row with a number is that of a loaded section that holds a piece
 abbrev pub is_bound_row : (ℕ → Bool) → ℕ → SectionRow → Bool
-is_bound_row got_content n row = not (same_class row.key.class N) && got_content n
+is_bound_row has_piece n row = not (same_class row.key.class N) && has_piece n
 
 -- where the first loaded section of a name begins and ends that holds a piece, where the first has this number
 abbrev pub bound_from : (ℕ → Bool) → ℕ → List SectionRow → List ℕ → Option Bound
-bound_from got_content n [] name = None
-bound_from got_content n (row ∷ rows) name = cond (is_bound_row got_content n row && bytes_eq row.key.name name) (Some (bound_of_row row)) (bound_from got_content (n + 1) rows name)
+bound_from has_piece n [] name = None
+bound_from has_piece n (row ∷ rows) name = cond (is_bound_row has_piece n row && bytes_eq row.key.name name) (Some (bound_of_row row)) (bound_from has_piece (n + 1) rows name)
 
 abbrev pub bound_in : Placement → List ℕ → Option Bound
 bound_in place name = bound_from (has_piece_at place.pieces) 0 place.sections name
@@ -41,7 +41,7 @@ abbrev pub bound_of : List (List ℕ × Bound) → List ℕ → Option Bound
 bound_of entries name = lookup (bytes_eq name) entries
 
 abbrev pub FindsBounds : (ℕ → Bool) → List (List ℕ × Bound) → List SectionRow → Type 0
-FindsBounds got_content entries rows = (name : List ℕ) → bound_of entries name ≡ bound_from got_content 0 rows name
+FindsBounds has_piece entries rows = (name : List ℕ) → bound_of entries name ≡ bound_from has_piece 0 rows name
 
 abbrev pub start_or_zero : Option Bound → ℕ
 start_or_zero None = 0

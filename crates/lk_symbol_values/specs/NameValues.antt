@@ -85,7 +85,7 @@ abbrev pub value_of_row : List InputSummary → Placement → Placement → ℕ 
 value_of_row summaries place made n row =
     value_of_winner summaries place (made_by made row.contributions.name (row_winner row)) n (row_winner row)
 
--- what inputs and placed pieces tell of the name of a row; 0 where it is not there
+-- what inputs and placed pieces give of the name of a row; 0 without a row
 abbrev pub given_at : List InputSummary → Placement → ℕ → Option NameRow → ℕ
 given_at summaries place n None = 0
 given_at summaries place n (Some row) = given_in summaries place n (row_winner row)

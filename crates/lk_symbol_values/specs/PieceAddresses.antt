@@ -29,6 +29,6 @@ abbrev pub address_in : List PieceRow → PieceKey → Option ℕ
 address_in [] k = None
 address_in (row ∷ rows) k = cond (same_key (key_of row.piece) k) (Some row.addr) (address_in rows k)
 
--- the entries tell of each piece the address in its first row
+-- the entries give of each piece the address in its first row
 abbrev pub FindsPieces : List (PieceKey × ℕ) → List PieceRow → Type 0
 FindsPieces entries rows = (k : PieceKey) → address_of entries k ≡ address_in rows k

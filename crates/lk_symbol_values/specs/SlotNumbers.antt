@@ -36,10 +36,10 @@ abbrev pub place_from : {X : Type 0} → (X → Bool) → ℕ → List X → Opt
 place_from test n [] = None
 place_from test n (x ∷ xs) = cond (test x) (Some n) (place_from test (n + 1) xs)
 
--- the entries tell of each owner the number of its first slot of the kind
+-- the entries give of each owner the number of its first slot of the kind
 abbrev pub FindsSlots : Bool → List (OwnerKey × ℕ) → List (Option GotKey) → Type 0
 FindsSlots thread entries slots = (k : OwnerKey) → number_of entries k ≡ place_from (is_slot_with thread k) 0 slots
 
--- the entries tell of each name the number of its first PLT entry
+-- the entries give of each name the number of its first PLT entry
 abbrev pub FindsEntries : List (ℕ × ℕ) → List ℕ → Type 0
 FindsEntries entries names = (n : ℕ) → entry_of entries n ≡ place_from (λ m. m == n) 0 names

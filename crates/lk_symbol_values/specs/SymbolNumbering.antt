@@ -1,5 +1,5 @@
--- What is known of the values of symbols at a placement, and the numbers of a relocation (psABI x86-64
--- "Relocation Types", "Thread-Local Storage").
+-- The values of symbols at a placement, the numbers that they give to relocations, and the numbers of a relocation
+-- (psABI x86-64 "Relocation Types", "Thread-Local Storage").
 use Rattle.std.specs.Prelude.{◌≡◌, ℕ, ◌<◌, ◌^◌, Bool, true, false, List, Option, Some, None, slice_get, if◌then◌else◌}
 use Rattle.std.specs.Option.{option_map}
 use Rattle.lk_model.specs.Amounts.{minus, plus}
@@ -23,19 +23,19 @@ use Rattle.lk_symbol_values.specs.declared.name_values.SymbolValue.{SymbolValue}
 use Rattle.lk_symbol_values.specs.declared.values.Relocation.{Relocation}
 use Rattle.lk_symbol_values.specs.declared.values.SymbolNumbers.{SymbolNumbers}
 
--- what the values are those of: what is resolved, the summaries of the inputs, the placement
+-- what values are made of: the resolution, the summaries of the inputs, the placement
 pub record ValueInputs : Type 0 where
   pub resolution : ResolutionValue
   pub summaries : List InputSummary
   pub place : Placement
 
--- these are the values of the names, and fields hold what inputs and placed pieces tell of them
+-- these are the values of the names, and what inputs and placed pieces give of them fits 64 bits
 pub record AreValues (values : List SymbolValue) (rows : List NameRow) (summaries : List InputSummary) (place : Placement) : Type 0 where
   pub values_are : values ≡ values_from summaries place place 0 rows
   pub given_fit : (n : ℕ) → given_at summaries place n (slice_get rows n) < 2 ^ 64
 
--- where a section of an input begins, where it is a piece that is placed, and the address of an offset in a section
--- that begins there
+-- the address of a section of an input, none for one that is not placed, and that of an offset in a section with
+-- this address
 abbrev pub piece_start : Placement → ℕ → ℕ → Option ℕ
 piece_start place input section = option_map address_of_piece (piece_row_of place (id.Section input section))
 
@@ -51,7 +51,7 @@ relocation_of place ref = record { address = section_address place ref.input ref
 abbrev pub low_numbers : Numbers → Numbers
 low_numbers n = record n { s = low_64 n.s; l = low_64 n.l; slot = low_64 n.slot; tls_end = low_64 n.tls_end }
 
--- the value of a name that is not there
+-- the value of a name without a number
 abbrev pub nothing : SymbolValue
 nothing = record { value = 0; call = 0; size = 0; placed = false; got_content = 0 }
 
@@ -59,7 +59,7 @@ abbrev pub value_or_nothing : Option SymbolValue → SymbolValue
 value_or_nothing None = nothing
 value_or_nothing (Some v) = v
 
--- the value of the name of a row, where there is one, and the name with a number
+-- the value of the name of a row, and of the name with a number
 abbrev pub value_with : List InputSummary → Placement → ℕ → Option NameRow → SymbolValue
 value_with summaries place n None = nothing
 value_with summaries place n (Some row) = value_of_row summaries place place n row
@@ -71,7 +71,7 @@ value_at known n = value_with known.summaries known.place n (slice_get known.res
 abbrev pub owner_slot : Placement → GotOwner → Bool → ℕ
 owner_slot place o thread = low_64 (slot_address place (record { owner = o; thread = thread }))
 
--- the value of a symbol with this value, which has the GOT slots of this owner
+-- the numbers of a symbol with this value, which has the GOT slots of this owner
 abbrev pub symbol_numbers_by : Placement → SymbolValue → GotOwner → SymbolNumbers
 symbol_numbers_by place v o = record {
   value = v.value;
@@ -82,7 +82,7 @@ symbol_numbers_by place v o = record {
   thread_slot = owner_slot place o true;
 }
 
--- what the symbol that a reference of an input goes through has the value, by what fields hold of lk_model's numbers
+-- the numbers of the symbol that a reference of an input goes through: lk_model's, by their low 64 bits
 abbrev pub symbol_numbers_of : Resolved → Placement → ℕ → Through → SymbolNumbers
 symbol_numbers_of r place input (ByName n weak) =
     let s = name_value r place n in
@@ -116,7 +116,7 @@ value_through r place input (ByLocal k) = local_value r place input k
 abbrev pub slot_by : ℕ → SymbolNumbers → ℕ
 slot_by code w = if is_thread_slot code then w.thread_slot else w.slot
 
--- the numbers of a relocation through a symbol that has the value this
+-- the numbers of a relocation through a symbol with these numbers
 abbrev pub numbers_by : Placement → Relocation → SymbolNumbers → Numbers
 numbers_by place x w = record {
   s = w.value;
@@ -130,6 +130,6 @@ numbers_by place x w = record {
   tls_end = block_edge w.placed (low_64 (tls_end place));
 }
 
--- what a GOT slot holds of a symbol with this value
+-- the content of a GOT slot of a symbol with this value
 abbrev pub content_of : Placement → Bool → SymbolValue → ℕ
 content_of place thread v = if thread then (if v.placed then minus v.got_content (low_64 (tls_end place)) else 0) else v.got_content

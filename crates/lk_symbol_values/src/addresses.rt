@@ -24,11 +24,11 @@ use std::marker::Model;
 /// Where the tables are that references go through, and the thread-local block.
 #[derive(Clone, Copy)]
 pub(crate) struct Tables {
-    /// The address of `.got`, where there is one.
+    /// The address of `.got`, if the link has one.
     got: Option<u64>,
-    /// The address of `.got.plt`, 0 where there is none.
+    /// The address of `.got.plt`; 0 without one.
     got_plt: u64,
-    /// The address of `.plt`, where there is one.
+    /// The address of `.plt`, if the link has one.
     plt: Option<u64>,
     /// The address at which the thread-local block begins.
     tls_start: u64,
@@ -60,7 +60,7 @@ impl<'a> Model for Addresses<'a> {
     ghost invariant = { λ a. IsIndexed a.pieces.entries a.values.entries a.threads.entries a.entries.entries a.tables a.place.now };
 }
 
-/// The address of a section, and 0 where it is not there.
+/// The address of a section; 0 without one.
 fn or_zero(address: Option<u64>) -> u64
     ensures { result ≡ or_zero address }
 {
@@ -106,7 +106,14 @@ impl<'a> Addresses<'a> {
         })
     }
 
-    /// The address of a piece that is placed.
+    /// The placement.
+    pub(crate) fn placement(&self) -> &Placement
+        ensures { result.now ≡ self.now }
+    {
+        self.place
+    }
+
+    /// The address of a piece; none for one that is not placed.
     pub(crate) fn piece(&self, piece: PieceId) -> Option<u64>
         ensures { result ≡ option_map address_of_piece (piece_row_of self.now piece) }
     {
@@ -179,7 +186,7 @@ impl<'a> Addresses<'a> {
         }
     }
 
-    /// The low bits of the address of a GOT slot; 0 where there is none.
+    /// The low bits of the address of a GOT slot; 0 without one.
     pub(crate) fn slot_address(&self, key: GotKey) -> u64
         ensures { result ≡ low_64 (slot_address self.now key) }
     {

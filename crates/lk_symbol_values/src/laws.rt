@@ -1,4 +1,4 @@
-//! What values of relocations have to do with the numbers that are reported, as contracts of functions that do nothing.
+//! The values of relocations by the low 64 bits of their numbers, as contracts of functions that do nothing.
 
 ghost use Rattle.lk_symbol_values.specs.ValueLaws.{LowNumbersServe, PlacesAreExact, PlacesAreReported, ReferencesAreServed};
 

@@ -41,15 +41,15 @@ impl<'a> Model for MadeValues<'a> {
 
 /// The numbers of the sections of these pieces.
 fn sections_with_pieces(alloc: Global, pieces: &[PieceRow]) -> Result<SectionsWithPieces, NoMemory>
-    ensures { IfOk result (λ got_content. got_content.keys ≡ fold (with_new nat_eq) [] (sections_of_pieces pieces.now)) }
+    ensures { IfOk result (λ with_pieces. with_pieces.keys ≡ fold (with_new nat_eq) [] (sections_of_pieces pieces.now)) }
 {
-    let mut got_content = IndexSet::new(alloc);
+    let mut with_pieces = IndexSet::new(alloc);
     for piece in pieces {
-        if got_content.insert(piece.section as usize).is_err() {
+        if with_pieces.insert(piece.section as usize).is_err() {
             return Err(NoMemory);
         }
     }
-    Ok(got_content)
+    Ok(with_pieces)
 }
 
 /// Where a section begins and ends.
@@ -63,13 +63,13 @@ fn bound_of_row(row: &SectionRow) -> Bound
 }
 
 /// Whether the row with a number is that of a loaded section that holds a piece.
-fn is_bound_row(got_content: &SectionsWithPieces, number: usize, row: &SectionRow) -> bool
-    ensures { result ≡ is_bound_row (is_number_in got_content.now.keys) number row.now }
+fn is_bound_row(with_pieces: &SectionsWithPieces, number: usize, row: &SectionRow) -> bool
+    ensures { result ≡ is_bound_row (is_number_in with_pieces.now.keys) number row.now }
 {
-    !same_class(row.key.class, Class::N) && got_content.contains(&number)
+    !same_class(row.key.class, Class::N) && with_pieces.contains(&number)
 }
 
-/// Notes where a section begins and ends, in the stead of what was noted before of its name.
+/// Notes where a section begins and ends, in place of what was noted before under its name.
 fn note_bound(alloc: Global, bounds: &mut Bounds, row: &SectionRow) -> Result<(), NoMemory>
     ensures { OnOk result ((name : List ℕ) → bound_of bounds.new.entries name ≡ cond (bytes_eq row.now.key.name name) (Some (bound_of_row row.now)) (bound_of bounds.old.entries name)) }
 {
@@ -84,13 +84,13 @@ fn note_bound(alloc: Global, bounds: &mut Bounds, row: &SectionRow) -> Result<()
 fn note_row(
     alloc: Global,
     bounds: &mut Bounds,
-    got_content: &SectionsWithPieces,
+    with_pieces: &SectionsWithPieces,
     number: usize,
     row: &SectionRow,
 ) -> Result<(), NoMemory>
-    ensures { OnOk result ((name : List ℕ) → bound_of bounds.new.entries name ≡ cond (is_bound_row (is_number_in got_content.now.keys) number row.now && bytes_eq row.now.key.name name) (Some (bound_of_row row.now)) (bound_of bounds.old.entries name)) }
+    ensures { OnOk result ((name : List ℕ) → bound_of bounds.new.entries name ≡ cond (is_bound_row (is_number_in with_pieces.now.keys) number row.now && bytes_eq row.now.key.name name) (Some (bound_of_row row.now)) (bound_of bounds.old.entries name)) }
 {
-    if is_bound_row(got_content, number, row) {
+    if is_bound_row(with_pieces, number, row) {
         note_bound(alloc, bounds, row)?;
     }
     Ok(())
@@ -99,14 +99,14 @@ fn note_row(
 /// Where the loaded sections among these that hold pieces begin and end; of a name that several have the first.
 fn bounds_among(
     alloc: Global,
-    got_content: &SectionsWithPieces,
+    with_pieces: &SectionsWithPieces,
     rows: &[SectionRow],
 ) -> Result<Bounds, NoMemory>
-    ensures { IfOk result (λ bounds. FindsBounds (is_number_in got_content.now.keys) bounds.entries rows.now) }
+    ensures { IfOk result (λ bounds. FindsBounds (is_number_in with_pieces.now.keys) bounds.entries rows.now) }
 {
     let mut bounds = IndexMap::new(alloc);
     for number in (0..rows.len()).rev() {
-        note_row(alloc, &mut bounds, got_content, number, &rows[number])?;
+        note_row(alloc, &mut bounds, with_pieces, number, &rows[number])?;
     }
     Ok(bounds)
 }
@@ -126,7 +126,7 @@ fn rest_from(bytes: &[u8], at: usize) -> &[u8]
     if at < bytes.len() { &bytes[at..] } else { &[] }
 }
 
-/// Where a section begins; 0 where it is not there.
+/// Where a section begins; 0 without one.
 fn start_or_zero(bound: Option<Bound>) -> u64
     ensures { result ≡ start_or_zero bound }
 {
@@ -136,7 +136,7 @@ fn start_or_zero(bound: Option<Bound>) -> u64
     }
 }
 
-/// Where a section ends; 0 where it is not there.
+/// Where a section ends; 0 without one.
 fn end_or_zero(bound: Option<Bound>) -> u64
     ensures { result ≡ end_or_zero bound }
 {
@@ -146,8 +146,7 @@ fn end_or_zero(bound: Option<Bound>) -> u64
     }
 }
 
-/// The value of `__start_X` and `__stop_X`, where the section X begins and ends. Memory is wanted for such
-/// names alone.
+/// The value of `__start_X` and `__stop_X`, where the section X begins and ends. Only such names take memory.
 fn bound_value(alloc: Global, bounds: &Bounds, name: &[u8]) -> Result<u64, NoMemory>
     ensures { IfOk result (λ value. value ≡ bound_value_by (bound_of bounds.now.entries) name.now) }
 {
@@ -170,8 +169,8 @@ impl<'a> MadeValues<'a> {
     pub(crate) fn new(alloc: Global, place: &'a Placement) -> Result<Self, NoMemory>
         ensures { IfOk result (λ made. made ≡ place.now) }
     {
-        let got_content = sections_with_pieces(alloc, place.pieces.as_slice())?;
-        let bounds = bounds_among(alloc, &got_content, place.sections.as_slice())?;
+        let with_pieces = sections_with_pieces(alloc, place.pieces.as_slice())?;
+        let bounds = bounds_among(alloc, &with_pieces, place.sections.as_slice())?;
         let places = made_places(place);
         Ok(MadeValues {
             place,

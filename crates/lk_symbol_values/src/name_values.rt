@@ -26,7 +26,7 @@ pub(crate) struct SymbolValue {
     pub(crate) size: u64,
     /// Whether it has a place in the image.
     pub(crate) placed: bool,
-    /// What a GOT slot holds of it.
+    /// The content of its GOT slot.
     pub(crate) got_content: u64,
 }
 
@@ -58,8 +58,8 @@ fn symbol_size(inputs: &InputSymbols<'_>, input: u32, symbol: u32) -> u64
     }
 }
 
-/// What an input or a placed piece reports of the name with a number and a winner: the value of its definition, the
-/// address of its common block or of its copy; 0 where none reports of it.
+/// What an input or a placed piece gives of the name with a number and a winner: the value of its definition, the
+/// address of its common block or of its copy; 0 without any of these.
 fn given_value(
     addresses: &Addresses<'_>,
     inputs: &InputSymbols<'_>,
@@ -78,8 +78,8 @@ fn given_value(
     }
 }
 
-/// The low bits of the value of a name with a number and a winner, where this is reported of it, and this is what the
-/// linker makes of it.
+/// The low bits of the value of a name with a number and a winner: `given` by inputs and placed pieces, or `made` by
+/// the linker.
 fn value_of(addresses: &Addresses<'_>, given: u64, made: u64, number: u32, winner: Winner) -> u64
     ensures { result ≡ low_64 (value_by addresses.now given made number winner) }
 {
@@ -124,7 +124,8 @@ fn is_placed(winner: Winner) -> bool
     }
 }
 
-/// What a GOT slot holds of a name: of an import the address of its copy, which is reported, 0 without one; else its value.
+/// The content of the GOT slot of a name: the address of the copy of an import, which is `given`, 0 without one; else
+/// the value of the name.
 fn slot_content_of(given: u64, winner: Winner, value: u64) -> u64
     ensures { result ≡ slot_content_by given winner value }
 {
@@ -134,8 +135,8 @@ fn slot_content_of(given: u64, winner: Winner, value: u64) -> u64
     }
 }
 
-/// The value of a name with a number and a winner, where this is what the linker makes of it. What is reported of the
-/// name is a number that a field holds.
+/// The value of a name with a number and a winner, of which the linker makes `made`. What inputs and placed pieces give
+/// of the name fits 64 bits.
 fn value_of_winner(
     addresses: &Addresses<'_>,
     inputs: &InputSymbols<'_>,
@@ -214,9 +215,9 @@ pub(crate) fn name_values(
     Ok(values)
 }
 
-/// The value of a LOCAL symbol of an input; its value is a number that a field holds.
+/// The value of a LOCAL symbol of an input; it fits 64 bits.
 pub(crate) fn local_value(addresses: &Addresses<'_>, input: u32, local: &Local) -> SymbolValue
-    ensures symbol_numbers { result ≡ local_value_of addresses.now input local.now }
+    ensures value { result ≡ local_value_of addresses.now input local.now }
     ensures exact { result.value ≡ home_value addresses.now input local.now.home local.now.value }
 {
     let value = exact(addresses.home_value(input, local.home, local.value));

@@ -1,4 +1,4 @@
-//! Where pieces are, looked up by hash.
+//! The addresses of pieces, looked up by hash.
 
 ghost use Rattle.std.specs.Prelude.{◌≡◌, cond, Some, IfOk, OnOk};
 ghost use Rattle.lk_symbol_values.specs.PieceAddresses.{address_of, key_of, same_key, FindsPieces};
@@ -34,7 +34,7 @@ fn key_of(piece: PieceId) -> PieceKey
     }
 }
 
-/// Notes where a piece is, in the stead of what was noted before of it.
+/// Notes the address of a piece, in place of what was noted before of it.
 fn note_piece(addresses: &mut PieceAddresses, row: PieceRow) -> Result<(), NoMemory>
     ensures { OnOk result ((k : PieceKey) → address_of addresses.new.entries k ≡ cond (same_key (key_of row.piece) k) (Some row.addr) (address_of addresses.old.entries k)) }
 {

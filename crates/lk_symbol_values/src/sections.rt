@@ -63,7 +63,7 @@ fn row_of<'a>(place: &'a Placement, name: &[u8], class: Class) -> Option<&'a Sec
         .find(|row| is_key(&row.key, name, class))
 }
 
-/// The address of the section with a name and a class, where there is one.
+/// The address of the section with a name and a class, if the placement has one.
 pub(crate) fn section_start(place: &Placement, name: &[u8], class: Class) -> Option<u64>
     ensures { result ≡ option_map address_of_row (row_of place.now (named name.now class)) }
 {
@@ -73,7 +73,7 @@ pub(crate) fn section_start(place: &Placement, name: &[u8], class: Class) -> Opt
     }
 }
 
-/// The address of the section with a name and a class; 0 where there is none.
+/// The address of the section with a name and a class; 0 without one.
 pub(crate) fn section_start_or_zero(place: &Placement, name: &[u8], class: Class) -> u64
     ensures { result ≡ low_64 (start_of (row_of place.now (named name.now class))) }
 {
@@ -83,7 +83,7 @@ pub(crate) fn section_start_or_zero(place: &Placement, name: &[u8], class: Class
     }
 }
 
-/// The low bits of the end of the section with a name and a class; 0 where there is none.
+/// The low bits of the end of the section with a name and a class; 0 without one.
 pub(crate) fn section_end(place: &Placement, name: &[u8], class: Class) -> u64
     ensures { result ≡ low_64 (end_of (row_of place.now (named name.now class))) }
 {

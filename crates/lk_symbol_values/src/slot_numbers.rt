@@ -42,7 +42,7 @@ fn same_truth(a: bool, b: bool) -> bool
     if a { b } else { !b }
 }
 
-/// Notes the number of the slot of an owner, in the stead of what was noted before of it.
+/// Notes the number of the slot of an owner, in place of what was noted before of it.
 fn note_owner(numbers: &mut SlotNumbers, owner: OwnerKey, number: usize) -> Result<(), NoMemory>
     ensures { OnOk result ((k : OwnerKey) → number_of numbers.new.entries k ≡ cond (same_key owner k) (Some number) (number_of numbers.old.entries k)) }
 {
@@ -52,8 +52,8 @@ fn note_owner(numbers: &mut SlotNumbers, owner: OwnerKey, number: usize) -> Resu
     }
 }
 
-/// Notes the number of a slot, where it holds a thread offset or where not, in the stead of what was noted
-/// before of its owner.
+/// Notes the number of a slot that holds a thread offset, or one that does not, in place of what was noted before of
+/// its owner.
 fn note_slot(
     numbers: &mut SlotNumbers,
     thread: bool,
@@ -94,7 +94,7 @@ pub(crate) fn number_of(numbers: &SlotNumbers, owner: GotOwner) -> Option<usize>
     numbers.get(&key_of(owner)).copied()
 }
 
-/// Notes the number of the PLT entry of a name, in the stead of what was noted before of it.
+/// Notes the number of the PLT entry of a name, in place of what was noted before of it.
 fn note_entry(numbers: &mut EntryNumbers, name: u32, number: usize) -> Result<(), NoMemory>
     ensures { OnOk result ((n : ℕ) → entry_of numbers.new.entries n ≡ cond (name == n) (Some number) (entry_of numbers.old.entries n)) }
 {

@@ -35,15 +35,16 @@ const GOTTPOFF: u32 = 22;
 /// A relocation at its place (gABI "Relocation").
 #[derive(Clone, Copy)]
 pub struct Relocation {
-    /// The address of its field, P; 0 in a section that is no piece that is placed.
+    /// The address of its field, P; 0 in a section that is not placed.
     pub address: u64,
     /// The relocation type.
     pub code: u32,
     pub addend: i64,
 }
 
-/// The value of a symbol to the relocations through it, by the low bits of each number. It is the same for all of
-/// them, so that it is found once for each symbol of an object.
+/// The numbers that a symbol gives to the formulas of the relocations through it (psABI x86-64 "Relocation Types"),
+/// each by its low 64 bits. They are the same for all of these relocations, so they are found once for each symbol of
+/// an object.
 #[derive(Clone, Copy)]
 pub struct SymbolNumbers {
     /// The symbol's value, S.
@@ -54,13 +55,13 @@ pub struct SymbolNumbers {
     pub size: u64,
     /// Whether it has a place in the image.
     pub placed: bool,
-    /// The address of the GOT slot that holds its value; 0 where there is none.
+    /// The address of the GOT slot that holds its value; 0 without one.
     pub slot: u64,
-    /// The address of the GOT slot that holds its thread offset; 0 where there is none.
+    /// The address of the GOT slot that holds its thread offset; 0 without one.
     pub thread_slot: u64,
 }
 
-/// The value of a name that is not there.
+/// The value of a name without a number in the symbol table.
 const NOTHING: SymbolValue = SymbolValue {
     value: 0,
     call: 0,
@@ -69,8 +70,8 @@ const NOTHING: SymbolValue = SymbolValue {
     got_content: 0,
 };
 
-/// The values of symbols at a placement. Contracts see it as what it was made of: what is resolved, the
-/// summaries of the inputs and the placement.
+/// The values of symbols at a placement (gABI "Symbol Table"), with the resolution and the placement that they were
+/// made of. Contracts see it as these two and the summaries of the inputs.
 #[derive(Drop)]
 pub struct Values<'a> {
     resolution: &'a Resolution,
@@ -89,16 +90,16 @@ impl<'a> Model for Values<'a> {
     ghost invariant = { λ v. AreValues v.names v.resolution.now.rows v.symbols v.addresses };
 }
 
-/// Where the thread-local block that a symbol's offset is counted from begins or ends, 0 for a symbol
-/// without a place in the image.
+/// The edge of the thread-local block that a symbol's offset is counted from; 0 for a symbol without a place in the
+/// image.
 fn block_edge(placed: bool, edge: u64) -> u64
     ensures { result ≡ block_edge placed edge }
 {
     if placed { edge } else { 0 }
 }
 
-/// What a symbol with this value holds in a GOT slot: its value, or its offset from the end of the
-/// thread-local block.
+/// The content of a GOT slot of a symbol with this value: the value, or its offset from the end of the thread-local
+/// block.
 fn content_of(addresses: &Addresses<'_>, thread: bool, value: SymbolValue) -> u64
     ensures { result ≡ content_of addresses.now thread value }
 {
@@ -112,15 +113,14 @@ fn content_of(addresses: &Addresses<'_>, thread: bool, value: SymbolValue) -> u6
     }
 }
 
-/// The low bits of the address of the GOT slot of an owner, for its value or for its thread offset; 0 where there is
-/// none.
+/// The low bits of the address of the GOT slot of an owner, for its value or for its thread offset; 0 without one.
 fn slot_of(addresses: &Addresses<'_>, owner: GotOwner, thread: bool) -> u64
     ensures { result ≡ owner_slot addresses.now owner thread }
 {
     addresses.slot_address(GotKey { owner, thread })
 }
 
-/// The value of a symbol with this value, which has the GOT slots of this owner.
+/// The numbers of a symbol with this value, which has the GOT slots of this owner.
 fn symbol_numbers_by(
     addresses: &Addresses<'_>,
     value: SymbolValue,
@@ -149,7 +149,7 @@ fn slot_by(code: u32, symbol_numbers: &SymbolNumbers) -> u64
     }
 }
 
-/// The numbers of a relocation through a symbol that has the value this.
+/// The numbers of a relocation through a symbol with these numbers.
 fn numbers_by(
     addresses: &Addresses<'_>,
     relocation: &Relocation,
@@ -170,7 +170,8 @@ fn numbers_by(
     }
 }
 
-/// The address of an offset in a section that begins there; 0 where the section is no piece that is placed.
+/// The address of an offset in a section with this address; 0 for a section that is not placed (gABI "Relocation",
+/// r_offset).
 pub fn place_at(start: Option<u64>, offset: u64) -> u64
     ensures { result ≡ place_at start offset }
 {
@@ -180,7 +181,7 @@ pub fn place_at(start: Option<u64>, offset: u64) -> u64
     }
 }
 
-/// The value of the name with a number by this list.
+/// The value of the name with a number in this list.
 fn value_or_nothing(values: &[SymbolValue], number: u32) -> SymbolValue
     ensures { result ≡ value_or_nothing (slice_get values.now number) }
 {
@@ -198,7 +199,7 @@ fn is_thread_slot(code: u32) -> bool
 }
 
 impl<'a> Values<'a> {
-    /// The values of symbols at a placement, which may be any. `inputs` has the summary of each input.
+    /// The values of symbols at any placement (gABI "Symbol Table"). `inputs` has the summary of each input.
     ///
     /// # Errors
     /// Out of memory.
@@ -222,11 +223,18 @@ impl<'a> Values<'a> {
         })
     }
 
-    /// What is resolved of the link.
+    /// The resolution of the link.
     pub fn resolution(&self) -> &Resolution
         ensures { result.now ≡ self.now.resolution }
     {
         self.resolution
+    }
+
+    /// The placement of the link.
+    pub fn placement(&self) -> &Placement
+        ensures { result.now ≡ self.now.place }
+    {
+        self.addresses.placement()
     }
 
     /// A symbol of an input that is not LOCAL, by its number.
@@ -236,15 +244,15 @@ impl<'a> Values<'a> {
         self.symbols.symbol(input, symbol)
     }
 
-    /// Where a section of an input begins, where it is a piece that is placed. By `place_at` it reports the address of
-    /// each offset in the section.
+    /// The address of a section of an input (gABI "Section Header", sh_addr of the piece); none for a section that is
+    /// not placed. `place_at` gives the address of each offset in the section.
     pub fn piece_start(&self, input: u32, section: u32) -> Option<u64>
         ensures { result ≡ piece_start self.now.place input section }
     {
         self.addresses.piece(PieceId::Section { input, section })
     }
 
-    /// The value of the name with a number. Fields hold what inputs and placed pieces tell of it.
+    /// The value of the name with a number. What inputs and placed pieces give of it fits 64 bits.
     fn name_value(&self, number: u32) -> SymbolValue
         ensures value { result ≡ value_at self.now number }
         ensures fits { given_at self.now.summaries self.now.place number (slice_get self.now.resolution.rows number) < 2 ^ 64 }
@@ -252,8 +260,8 @@ impl<'a> Values<'a> {
         value_or_nothing(self.names.as_slice(), number)
     }
 
-    /// The value of the name with a number to the relocations through it: lk_model's numbers, where the placement is
-    /// one that the link may have. Within the limit on memory its value is S as it is.
+    /// The numbers that the name with a number gives to the relocations through it (psABI x86-64 "Relocation Types"):
+    /// lk_model's, at a lawful placement. Within the limit on memory its value is S as it is.
     pub fn name_numbers(&self, name: u32) -> SymbolNumbers
         ensures symbol_numbers { (needs : Needs) (options : OptionRecord) (xs : List Input) → IsGiven self.now.resolution self.now.summaries needs options xs → Lawful (resolve options xs) self.now.place → (input : ℕ) (weak : Bool) → result ≡ symbol_numbers_of (resolve options xs) self.now.place input (ByName name weak) }
         ensures exact { (needs : Needs) (options : OptionRecord) (xs : List Input) → IsGiven self.now.resolution self.now.summaries needs options xs → Lawful (resolve options xs) self.now.place → memory_of self.now.place ≤ 2 ^ 31 → result.value ≡ name_value (resolve options xs) self.now.place name }
@@ -262,8 +270,9 @@ impl<'a> Values<'a> {
         symbol_numbers_by(&self.addresses, value, GotOwner::Global(name))
     }
 
-    /// The value of the LOCAL symbol with a number of an input to the relocations through it, at any placement; `local`
-    /// is what the input reports of that symbol. Its value is S as it is.
+    /// The numbers that the LOCAL symbol with a number of an input gives to the relocations through it, at any
+    /// placement (psABI x86-64 "Relocation Types"); `local` is that symbol as the input has it. Its value is S as it
+    /// is.
     pub fn local_numbers(&self, input: u32, symbol: u32, local: &Local) -> SymbolNumbers
         ensures symbol_numbers { (r : Resolved) → local.now ≡ local_of r input symbol → result ≡ symbol_numbers_of r self.now.place input (ByLocal symbol) }
         ensures exact { (r : Resolved) → local.now ≡ local_of r input symbol → result.value ≡ local_value r self.now.place input symbol }
@@ -272,8 +281,8 @@ impl<'a> Values<'a> {
         symbol_numbers_by(&self.addresses, value, GotOwner::Local { input, symbol })
     }
 
-    /// The numbers of a relocation through a symbol that has the value this, by their low 64 bits: those of the reference
-    /// that the relocation is, where this is what lk_model says that its symbol has the value.
+    /// The numbers of a relocation through a symbol with these numbers, by their low 64 bits (psABI x86-64 "Relocation
+    /// Types"): those of the reference that the relocation is, where the symbol's numbers are lk_model's.
     pub fn numbers(&self, relocation: &Relocation, symbol_numbers: &SymbolNumbers) -> Numbers
         ensures by_parts { result ≡ numbers_by self.now.place relocation.now symbol_numbers.now }
         ensures reported { (r : Resolved) (ref : Ref) → relocation.now ≡ relocation_of self.now.place ref → symbol_numbers.now ≡ symbol_numbers_of r self.now.place ref.input ref.through → result ≡ low_numbers (numbers_of r self.now.place ref) }
@@ -281,16 +290,16 @@ impl<'a> Values<'a> {
         numbers_by(&self.addresses, relocation, symbol_numbers)
     }
 
-    /// What the GOT slot of a name holds, by its low 64 bits: its value, or its offset from the end of the
-    /// thread-local block; 0 for an import without a copy.
+    /// The content of the GOT slot of a name, by its low 64 bits (psABI x86-64 "Global Offset Table"): its value, or
+    /// its offset from the end of the thread-local block; 0 for an import without a copy.
     pub fn name_slot(&self, name: u32, thread: bool) -> u64
         ensures { (needs : Needs) (options : OptionRecord) (xs : List Input) → IsGiven self.now.resolution self.now.summaries needs options xs → Lawful (resolve options xs) self.now.place → result ≡ low_64 (slot_value (resolve options xs) self.now.place (Some (record { owner = owner.Global name; thread = thread }))) }
     {
         content_of(&self.addresses, thread, self.name_value(name))
     }
 
-    /// What the GOT slot of a LOCAL symbol of an input holds, by its low 64 bits; `local` is what the input reports
-    /// of that symbol.
+    /// The content of the GOT slot of a LOCAL symbol of an input, by its low 64 bits (psABI x86-64 "Global Offset
+    /// Table"); `local` is that symbol as the input has it.
     pub fn local_slot(&self, input: u32, symbol: u32, thread: bool, local: &Local) -> u64
         ensures { (r : Resolved) → local.now ≡ local_of r input symbol → result ≡ low_64 (slot_value r self.now.place (Some (record { owner = owner.Local input symbol; thread = thread }))) }
     {
@@ -298,8 +307,8 @@ impl<'a> Values<'a> {
         content_of(&self.addresses, thread, value)
     }
 
-    /// The address where the program begins, by its low 64 bits: the value of the entry symbol, whose name is
-    /// given; 0 where no symbol has it (gABI "ELF Header", e_entry).
+    /// The entry address of the program, by its low 64 bits: the value of the symbol with this name; 0 without such a
+    /// symbol (gABI "ELF Header", e_entry).
     pub fn entry(&self, name: &Name) -> u64
         ensures { (needs : Needs) (options : OptionRecord) (xs : List Input) → IsGiven self.now.resolution self.now.summaries needs options xs → Lawful (resolve options xs) self.now.place → options.entry ≡ name.now → result ≡ low_64 (entry_value (resolve options xs) self.now.place) }
     {
