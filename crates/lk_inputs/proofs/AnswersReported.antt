@@ -15,6 +15,7 @@ use Rattle.lk_model.specs.Links.{resolved_of}
 use Rattle.lk_model.specs.ResolveFaults.{faults_of, name_count, resolve_faults}
 use Rattle.lk_model.specs.Resolving.{resolve}
 use Rattle.lk_model.specs.Views.{Input, Resolved}
+use Rattle.lk_model.proofs.LimitsExceeded.{above, below}
 use Rattle.lk_model.proofs.Finding.{found_in-resolve}
 use Rattle.lk_resolve.specs.Given.{found_in}
 use Rattle.lk_resolve.specs.Settling.{most_names}

@@ -9,6 +9,7 @@ use Rattle.lk_model.specs.Finding.{Found}
 use Rattle.lk_model.specs.Grammar.{grammar}
 use Rattle.lk_model.specs.Inputs.{inputs_of}
 use Rattle.lk_outside.specs.FilesState.{FilesState}
+use Rattle.lk_resolve.specs.Given.{found_in}
 use Rattle.lk_resolve.specs.Settling.{SettleGives, ResolutionValue}
 use Rattle.lk_resolve.specs.declared.settle_faults.SettleFault.{SettleFault}
 use Rattle.lk_resolve.specs.declared.settle_faults.SettleFault.TheVariants as settle
