@@ -1,4 +1,4 @@
--- The entries of the dynamic section, as the table of names and the keys tell.
+-- The entries of the dynamic section, by the table of names and the keys.
 use Rattle.std.proofs.Common.{◌≡◌, refl, sym, ap, ◌+◌, Bool, true, false, cond, List, [], ◌∷◌, length, Option, None, Some, option_map}
 use Rattle.std.specs.List.{list_any}
 use Rattle.lk_model.specs.declared.layouts.SectionKey.{SectionKey}
@@ -10,7 +10,7 @@ use Rattle.lk_resolve.specs.RowFaults.{is_some_in_object}
 use Rattle.lk_symtab.specs.NameRows.{NameRow, row_winner}
 use Rattle.lk_dyn_sizes.specs.EntryCounts.{count_where}
 
--- what the table has of a row that is there
+-- a row that is there, by its winner
 pub in_object_reported : (o : Option NameRow) (w : Winner) → option_map row_winner o ≡ Some w → is_in_object w ≡ is_some_in_object o
 in_object_reported None w e = absurd (cc)
 in_object_reported (Some row) w e =

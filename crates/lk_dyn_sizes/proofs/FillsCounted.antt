@@ -1,4 +1,4 @@
--- By which type a slot is filled, as the table of names reports; and the slots that are filled, one after another.
+-- The relocation type that fills a slot, by the table of names; and the slots that are filled, one after another.
 use Rattle.std.proofs.Common.{◌≡◌, refl, sym, ap, ◌∙◌, ℕ, zero, suc, ◌+◌, add-one, Bool, List, [], ◌∷◌, ◌++◌, append_assoc, drop, Option, None, Some, option_map, option_and_then, slice_get}
 use Rattle.std.specs.List.{cons_option}
 use Rattle.lk_model.specs.declared.layouts.GotKey.{GotKey}
@@ -7,7 +7,7 @@ use Rattle.lk_model.specs.DynamicSlots.{SlotFill as Fill, winner_fill}
 use Rattle.lk_symtab.specs.NameRows.{NameRow, row_winner}
 use Rattle.lk_dyn_sizes.specs.Fills.{fills_from, row_fill, slot_fill_in}
 
--- what the table has of a row that is there
+-- a row that is there, by its winner
 pub fill_reported : (thread copied : Bool) (o : Option NameRow) (w : Winner) → option_map row_winner o ≡ Some w → winner_fill thread copied w ≡ option_and_then (row_fill thread copied) o
 fill_reported thread copied None w e = absurd (cc)
 fill_reported thread copied (Some row) w e =

@@ -1,6 +1,5 @@
 pub mod RowsChosen
 pub mod FillsCounted
-pub mod TextsStored
 pub mod StringsNoted
 pub mod EntriesCounted
 pub mod NamesGiven

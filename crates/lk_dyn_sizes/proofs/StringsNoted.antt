@@ -6,7 +6,7 @@ use Rattle.lk_model.specs.Texts.{with_text}
 use Rattle.lk_symtab.specs.NameRows.{NameRow, symbols_in}
 use Rattle.lk_dyn_sizes.specs.DynamicStrings.{row_texts, strings_of, texts_at}
 
--- what the table has of a row that is there
+-- a row that is there, by its symbols
 pub name_reported : (table new : List (List ℕ)) (o : Option NameRow) (cs : Contributions) → option_map symbols_in o ≡ Some cs → new ≡ with_text table cs.name → new ≡ fold with_text table (row_texts o)
 name_reported table new None cs e noted = absurd (cc)
 name_reported table new (Some row) cs e noted =
@@ -15,7 +15,7 @@ name_reported table new (Some row) cs e noted =
 
 -- a table once the names, the needed names and the run path were noted
 pub strings_reported : (rows : List NameRow) (numbers : List ℕ) (needed : List (List ℕ)) (runpath : List ℕ) (empty named full last : List (List ℕ))
-    → empty ≡ with_text [] [] → named ≡ fold with_text empty (texts_at rows numbers) → full ≡ fold with_text named needed → last ≡ with_text full runpath
+    → empty ≡ [] ∷ [] → named ≡ fold with_text empty (texts_at rows numbers) → full ≡ fold with_text named needed → last ≡ with_text full runpath
     → last ≡ strings_of rows numbers needed runpath
 strings_reported rows numbers needed runpath empty named full last e n f l =
     l

@@ -9,7 +9,7 @@ use Rattle.lk_symtab.specs.NameRows.{NameRow, number_of}
 abbrev pub is_defined_in : List NameRow → List ℕ → Bool
 is_defined_in rows name = is_some_in_object (option_and_then (slice_get rows) (number_of rows name))
 
--- one where a test holds
+-- 1 where a test is true, else 0
 abbrev pub count_where : Bool → ℕ
 count_where true = 1
 count_where false = 0

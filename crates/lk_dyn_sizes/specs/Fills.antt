@@ -18,7 +18,7 @@ row_fill thread copied row = winner_fill thread copied (row_winner row)
 abbrev pub number_fill : List NameRow → List ℕ → ℕ → Bool → Option ℕ
 number_fill rows copied n thread = option_and_then (row_fill thread (is_number_in copied n)) (slice_get rows n)
 
--- the type for a slot; that of a LOCAL symbol is known before
+-- the type for a slot; none for a LOCAL symbol, whose value is known when the image is made
 abbrev pub key_fill : List NameRow → List ℕ → GotKey → Option ℕ
 key_fill rows copied key = elim key.owner [ owner.Global n ↦ number_fill rows copied n key.thread | owner.Local i k ↦ None ]
 
@@ -40,11 +40,11 @@ as_fills fills = map as_fill fills
 abbrev pub filled_by : ℕ → ℕ → ℕ → Fill
 filled_by slot n code = record { slot = slot; name = n; code = code }
 
--- how a slot is filled, by its number and owner
+-- the fill of a slot, by its number and owner
 abbrev pub owner_fill_in : List NameRow → List ℕ → ℕ → Bool → GotOwner → Option Fill
 owner_fill_in rows copied slot thread o = elim o [ owner.Global n ↦ option_map (filled_by slot n) (number_fill rows copied n thread) | owner.Local i k ↦ None ]
 
--- how a slot is filled; one that is free is not
+-- the fill of a slot; a free slot has none
 abbrev pub slot_fill_in : List NameRow → List ℕ → ℕ × Option GotKey → Option Fill
 slot_fill_in rows copied x = option_and_then (λ (key : GotKey). owner_fill_in rows copied x.0 key.thread key.owner) x.1
 

@@ -1,7 +1,6 @@
 pub mod SizeRows
 pub mod DynamicRows
 pub mod Fills
-pub mod TextTables
 pub mod DynamicStrings
 pub mod EntryCounts
 pub mod SizesIn

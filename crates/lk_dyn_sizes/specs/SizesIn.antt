@@ -1,5 +1,5 @@
 -- How many bytes each table of a link has (gABI "Dynamic Linking"; psABI x86-64 "Global Offset Table",
--- "Procedure Linkage Table"), by what is resolved, the summaries of the inputs, the needs and the options.
+-- "Procedure Linkage Table"), by a `Resolution`, the summaries of the inputs, the needs and the options.
 use Rattle.std.specs.Prelude.{ℕ, ◌+◌, ◌*◌, cond, List, [], ◌∷◌, ◌++◌, length}
 use Rattle.lk_report.specs.declared.causes.OptionRecord.{OptionRecord}
 use Rattle.lk_elf.specs.Numbers.{sym_size, rela_size, dyn_size}
@@ -20,7 +20,7 @@ use Rattle.lk_dyn_sizes.specs.DynamicStrings.{needed_in, strings_in}
 use Rattle.lk_dyn_sizes.specs.EntryCounts.{entry_count_in}
 use Rattle.lk_dyn_sizes.specs.Fills.{filled_count}
 
--- what the tables of a dynamic link hold: the bytes of the two texts, and the numbers of entries
+-- the counts of the tables of a dynamic link: the bytes of the two texts, and the numbers of entries
 abbrev pub counts_in : List SectionKey → ResolutionValue → List InputSummary → Needs → OptionRecord → DynamicCounts
 counts_in keys resolution summaries needs options = record {
   interp = length (interpreter_path options.interp) + 1;

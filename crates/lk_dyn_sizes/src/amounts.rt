@@ -1,5 +1,5 @@
-//! Sums and products of sizes. One that has no room in 64 bits is answered as out of memory, since no memory
-//! holds what it counts.
+//! Sums and products of sizes. One that is greater than 64 bits is reported as out of memory, since no memory
+//! could have so many bytes.
 
 ghost use Rattle.std.specs.Prelude.{◌≡◌, ◌+◌, ◌*◌, IfOk};
 

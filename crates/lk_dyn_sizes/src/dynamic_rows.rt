@@ -1,4 +1,4 @@
-//! The dynamic names of a link: the imports that it needs, and the definitions that others may ask for (gABI
+//! The dynamic names of a link: the imports that it needs, and the definitions that others may refer to (gABI
 //! "Symbol Table", "Dynamic Section", DT_SYMTAB); and the imports that are copied.
 
 ghost use Rattle.std.specs.Prelude.{◌≡◌, ◌++◌, ◌<◌, List, length, slice_get, IfOk, OnOk};
@@ -112,7 +112,7 @@ fn dynamic_among(
     Ok(numbers)
 }
 
-/// The dynamic names of a link, as what is resolved reports them.
+/// The dynamic names of a link, over the rows of its `Resolution`.
 fn dynamic_of(
     alloc: Global,
     resolution: &Resolution,
@@ -177,7 +177,7 @@ pub(crate) fn copied_among(
     Ok(numbers)
 }
 
-/// The imports that are copied, as what is resolved reports them.
+/// The imports that are copied, over the rows of a `Resolution`.
 fn copied_of(alloc: Global, resolution: &Resolution, needs: &Needs) -> Result<NumberList, NoMemory>
     ensures { IfOk result (λ numbers. numbers ≡ copied_in resolution.now needs.now) }
 {

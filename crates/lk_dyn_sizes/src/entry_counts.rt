@@ -56,14 +56,14 @@ fn is_defined(alloc: Global, names: &SymTab, name: &[u8]) -> Result<bool, NoMemo
     Ok(is_name_defined(names, &name))
 }
 
-/// One where a test holds.
+/// 1 where a test is true, else 0.
 fn count_where(holds: bool) -> u64
     ensures { result ≡ count_where holds }
 {
     if holds { 1 } else { 0 }
 }
 
-/// One where a text is not empty.
+/// 1 where a text is not empty, else 0.
 fn count_of_text(text: &[u8]) -> u64
     ensures { result ≡ count_of_text text.now }
 {
@@ -97,7 +97,7 @@ fn array_count(keys: &[SectionKey]) -> u64
 
 /// How many entries the dynamic section has, where the image needs so many names and output sections of these
 /// keys exist: one for each of these names, for the run path and for the functions `_init` and `_fini` where
-/// they are there, two for each array of functions, and the usual ones.
+/// an object defines them, two for each array of functions, and those that every dynamic section has.
 pub(crate) fn entry_count(
     alloc: Global,
     names: &SymTab,

@@ -28,8 +28,8 @@ const R_X86_64_GLOB_DAT: u32 = 6;
 /// A slot is filled with the thread offset of a symbol.
 const R_X86_64_TPOFF64: u32 = 18;
 
-/// By which type the slot of an import is filled: a thread offset by its own; the address of a copy is known
-/// before.
+/// The relocation type that fills the slot of an import: that of a thread offset or of an address; none for the
+/// address of a copy, which is known when the image is made.
 fn import_fill(thread: bool, copied: bool) -> Option<u32>
     ensures { result ≡ import_fill thread copied }
 {
@@ -42,7 +42,7 @@ fn import_fill(thread: bool, copied: bool) -> Option<u32>
     Some(R_X86_64_GLOB_DAT)
 }
 
-/// By which type the slot of a winner is filled, where it is an import.
+/// The relocation type that fills the slot of a name with this winner, where that is an import.
 fn winner_fill(thread: bool, copied: bool, winner: Winner) -> Option<u32>
     ensures { result ≡ winner_fill thread copied winner }
 {
@@ -53,7 +53,7 @@ fn winner_fill(thread: bool, copied: bool, winner: Winner) -> Option<u32>
     }
 }
 
-/// By which type the slot of the name with a number is filled, which holds a thread offset or an address.
+/// The relocation type that fills the slot of the name with a number, a thread offset or an address.
 #[tactic(auto, using(crate::proofs::FillsCounted::fill_reported))]
 fn number_fill(names: &SymTab, copied: &NameSet, number: u32, thread: bool) -> Option<u32>
     ensures { result ≡ number_fill names.now copied.now.keys number thread }
@@ -64,7 +64,7 @@ fn number_fill(names: &SymTab, copied: &NameSet, number: u32, thread: bool) -> O
     winner_fill(thread, copied.contains(&number), names.winner(number))
 }
 
-/// By which type a slot is filled; that of a LOCAL symbol is known before.
+/// The relocation type that fills a slot; none for a LOCAL symbol, whose value is known when the image is made.
 fn key_fill(names: &SymTab, copied: &NameSet, key: GotKey) -> Option<u32>
     ensures { result ≡ key_fill names.now copied.now.keys key }
 {
@@ -81,7 +81,7 @@ fn is_filled(names: &SymTab, copied: &NameSet, key: GotKey) -> bool
     key_fill(names, copied, key).is_some()
 }
 
-/// How many of these slots it fills, where these names are copied.
+/// How many of these slots the dynamic linker fills, where these names are copied.
 pub(crate) fn filled_count(names: &SymTab, copied: &NameSet, keys: &[GotKey]) -> usize
     ensures { result ≡ filled_count names.now copied.now.keys keys.now }
 {
@@ -90,7 +90,7 @@ pub(crate) fn filled_count(names: &SymTab, copied: &NameSet, keys: &[GotKey]) ->
         .count()
 }
 
-/// How the slot with a number and of an owner is filled.
+/// The fill of the slot with a number, by its owner.
 fn owner_fill(
     names: &SymTab,
     copied: &NameSet,
@@ -109,7 +109,7 @@ fn owner_fill(
     }
 }
 
-/// How the slot with a number is filled; one that is free is not.
+/// The fill of the slot with a number; a free slot has none.
 fn slot_fill(names: &SymTab, copied: &NameSet, slot: u64, key: Option<GotKey>) -> Option<SlotFill>
     ensures { option_map as_fill result ≡ slot_fill_in names.now copied.now.keys (slot, key) }
 {
@@ -151,7 +151,7 @@ fn fills_among(
     Ok(fills)
 }
 
-/// The slots of a table that the dynamic linker fills, as what is resolved reports them.
+/// The slots of a table that the dynamic linker fills, over the rows of a `Resolution`.
 fn fills_of(
     alloc: Global,
     resolution: &Resolution,
@@ -164,8 +164,8 @@ fn fills_of(
     fills_among(alloc, resolution.names(), &copied, slots.got.as_slice())
 }
 
-/// The GOT slots that the dynamic linker fills before the program begins, in slot order: those of imports, but
-/// for addresses of imports that are copied.
+/// The GOT slots that the dynamic linker fills before the program begins, in slot order: those of imports,
+/// except the addresses of copied imports.
 ///
 /// # Errors
 /// Out of memory.

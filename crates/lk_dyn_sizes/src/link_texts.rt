@@ -13,14 +13,14 @@ ghost use Rattle.lk_model.specs.Views.{Input};
 ghost use Rattle.lk_resolve.specs.Given.{IsGiven};
 ghost use Rattle.lk_dyn_sizes.specs.DynamicStrings.{needed_in, number_sonames, number_texts, sonames_at, strings_of, summary_sonames, texts_at};
 
-use crate::text_table::TextTable;
 use lk_model::summaries::{InputSummary, Kind, SummaryList};
 use lk_report::{Name, NoMemory};
 use lk_resolve::Resolution;
+use lk_string_table::StringTable;
 use lk_symtab::SymTab;
 use std::alloc::Global;
 
-/// The path of the dynamic linker, which is the usual one where none is given.
+/// The path of the dynamic linker (gABI "Program Interpreter"); the usual one where none is given.
 pub fn interpreter_path(given: &[u8]) -> &[u8]
     ensures { result.now ≡ model.interpreter_path given.now }
 {
@@ -31,7 +31,7 @@ pub fn interpreter_path(given: &[u8]) -> &[u8]
 }
 
 /// Notes the name of a shared input.
-fn note_summary<'a>(needed: &mut TextTable<'a>, input: &'a InputSummary) -> Result<(), NoMemory>
+fn note_summary<'a>(needed: &mut StringTable<'a>, input: &'a InputSummary) -> Result<(), NoMemory>
     ensures { OnOk result (needed.new ≡ fold with_text needed.old (summary_sonames input.now)) }
 {
     match input.kind {
@@ -42,7 +42,7 @@ fn note_summary<'a>(needed: &mut TextTable<'a>, input: &'a InputSummary) -> Resu
 
 /// Notes the name of the input with a number, where it is a shared one.
 fn note_input<'a>(
-    needed: &mut TextTable<'a>,
+    needed: &mut StringTable<'a>,
     inputs: &'a [InputSummary],
     number: u32,
 ) -> Result<(), NoMemory>
@@ -54,27 +54,27 @@ fn note_input<'a>(
     }
 }
 
-/// The names of these inputs, each once, as far as they are shared.
+/// The names of the shared ones among these inputs, each once.
 fn sonames_of<'a>(
     alloc: Global,
     inputs: &'a [InputSummary],
     numbers: &[u32],
-) -> Result<TextTable<'a>, NoMemory>
+) -> Result<StringTable<'a>, NoMemory>
     ensures { IfOk result (λ needed. needed ≡ fold with_text [] (sonames_at inputs.now numbers.now)) }
 {
-    let mut needed = TextTable::new(alloc);
+    let mut needed = StringTable::without_texts(alloc, 0)?;
     for number in numbers {
         note_input(&mut needed, inputs, *number)?;
     }
     Ok(needed)
 }
 
-/// The names that the image needs, as what is resolved reports them.
+/// The names that the image needs, by a `Resolution` and the summaries of the inputs.
 fn needed_of<'a>(
     alloc: Global,
     resolution: &Resolution,
     inputs: &'a SummaryList,
-) -> Result<TextTable<'a>, NoMemory>
+) -> Result<StringTable<'a>, NoMemory>
     ensures { IfOk result (λ needed. needed ≡ needed_in resolution.now inputs.now) }
 {
     sonames_of(alloc, inputs.as_slice(), resolution.added().as_slice())
@@ -89,7 +89,7 @@ pub fn needed_names<'a>(
     alloc: Global,
     resolution: &Resolution,
     inputs: &'a SummaryList,
-) -> Result<TextTable<'a>, NoMemory>
+) -> Result<StringTable<'a>, NoMemory>
     ensures texts { IfOk result (λ needed. needed ≡ needed_in resolution.now inputs.now) }
     ensures given { (needs : Needs) (options : OptionRecord) (xs : List Input) → IsGiven resolution.now inputs.now needs options xs → IfOk result (λ needed. needed ≡ model.needed_names (resolve options xs)) }
 {
@@ -99,7 +99,7 @@ pub fn needed_names<'a>(
 /// Notes the name with a number, where there is one.
 #[tactic(auto, using(crate::proofs::StringsNoted::name_reported))]
 fn note_name<'a>(
-    strings: &mut TextTable<'a>,
+    strings: &mut StringTable<'a>,
     names: &'a SymTab,
     number: u32,
 ) -> Result<(), NoMemory>
@@ -113,7 +113,7 @@ fn note_name<'a>(
 
 /// Notes the names with these numbers.
 fn note_names<'a>(
-    strings: &mut TextTable<'a>,
+    strings: &mut StringTable<'a>,
     names: &'a SymTab,
     numbers: &[u32],
 ) -> Result<(), NoMemory>
@@ -126,7 +126,7 @@ fn note_names<'a>(
 }
 
 /// Notes the texts of another table.
-fn note_texts<'a>(strings: &mut TextTable<'a>, texts: &TextTable<'a>) -> Result<(), NoMemory>
+fn note_texts<'a>(strings: &mut StringTable<'a>, texts: &StringTable<'a>) -> Result<(), NoMemory>
     ensures { OnOk result (strings.new ≡ fold with_text strings.old texts.now) }
 {
     for number in 0..texts.count() {
@@ -135,28 +135,28 @@ fn note_texts<'a>(strings: &mut TextTable<'a>, texts: &TextTable<'a>) -> Result<
     Ok(())
 }
 
-/// The table of the names with these numbers, the needed names and the run path.
+/// The string table of the names with these numbers, the needed names and the run path.
 #[tactic(auto, using(crate::proofs::StringsNoted::strings_reported))]
 fn strings_of<'a>(
     alloc: Global,
     names: &'a SymTab,
     numbers: &[u32],
-    needed: &TextTable<'a>,
+    needed: &StringTable<'a>,
     runpath: &'a Name,
-) -> Result<TextTable<'a>, NoMemory>
+) -> Result<StringTable<'a>, NoMemory>
     ensures { IfOk result (λ strings. strings ≡ strings_of names.now numbers.now needed.now runpath.now) }
 {
-    let mut strings = TextTable::new(alloc);
-    strings.note(b"")?;
+    let count = needed.count().saturating_add(numbers.len());
+    let mut strings = StringTable::new(alloc, count.saturating_add(1))?;
     note_names(&mut strings, names, numbers)?;
     note_texts(&mut strings, needed)?;
     strings.note(runpath.as_slice())?;
     Ok(strings)
 }
 
-/// The table of the texts of a dynamic link: an empty text, then each once the names with these numbers, the
-/// names that the image needs and the run path. With the names that `dynamic_names` and `needed_names` tell it
-/// is `.dynstr`.
+/// The string table of a dynamic link, `.dynstr` (gABI "String Table"): the empty text, then each once the names
+/// with these numbers, the names that the image needs and the run path. `numbers` has those of `dynamic_names`,
+/// `needed` the texts of `needed_names`.
 ///
 /// # Errors
 /// Out of memory.
@@ -164,9 +164,9 @@ pub fn dynamic_texts<'a>(
     alloc: Global,
     resolution: &'a Resolution,
     numbers: &[u32],
-    needed: &TextTable<'a>,
+    needed: &StringTable<'a>,
     runpath: &'a Name,
-) -> Result<TextTable<'a>, NoMemory>
+) -> Result<StringTable<'a>, NoMemory>
     ensures texts { IfOk result (λ texts. texts ≡ strings_of resolution.now.rows numbers.now needed.now runpath.now) }
     ensures given { (summaries : List InputSummary) (needs : Needs) (options : OptionRecord) (xs : List Input) → IsGiven resolution.now summaries needs options xs → numbers.now ≡ names.dynamic_names (resolve options xs) → needed.now ≡ model.needed_names (resolve options xs) → runpath.now ≡ options.runpath → IfOk result (λ texts. texts ≡ model.dynamic_texts (resolve options xs)) }
 {

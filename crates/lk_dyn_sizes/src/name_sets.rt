@@ -32,7 +32,7 @@ fn insert_numbers(names: &mut NameSet, numbers: &[u32]) -> Result<(), NoMemory>
     Ok(())
 }
 
-/// Puts the name of a GOT slot into a set, where the slot is one of a name.
+/// Puts the name of a GOT slot into a set, where a name owns the slot.
 fn insert_slot(names: &mut NameSet, key: GotKey) -> Result<(), NoMemory>
     ensures { OnOk result (names.new.keys ≡ fold (with_new nat_eq) names.old.keys (slot_names key)) }
 {

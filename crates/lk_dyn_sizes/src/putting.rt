@@ -26,8 +26,8 @@ fn put(
     tables.push(TableSize { key, size })
 }
 
-/// The tables that every link has, with their sizes: a slot of the GOT is eight bytes, and its second part begins
-/// with three that the dynamic linker keeps (psABI "Global Offset Table").
+/// The tables that every link has, with their sizes: a slot of the GOT has eight bytes, and `.got.plt` begins
+/// with three slots that are reserved for the dynamic linker (psABI "Global Offset Table").
 pub(crate) fn static_tables(alloc: Global, needs: &Needs) -> Result<TableSizeList, NoMemory>
     ensures { IfOk result (λ tables. as_pairs tables ≡ static_pairs needs.now) }
 {
@@ -39,7 +39,7 @@ pub(crate) fn static_tables(alloc: Global, needs: &Needs) -> Result<TableSizeLis
     Ok(tables)
 }
 
-/// Puts the tables of the dynamic symbols and the texts at the end.
+/// Puts the tables of the dynamic symbols and of their names at the end.
 fn put_symbols(
     alloc: Global,
     tables: &mut TableSizeList,
@@ -54,7 +54,7 @@ fn put_symbols(
     Ok(())
 }
 
-/// Puts the tables of what the dynamic linker fills and calls, and the dynamic section, at the end.
+/// Puts the relocation tables, the procedure linkage table and the dynamic section at the end.
 fn put_calls(alloc: Global, tables: &mut TableSizeList, sizes: DynamicSizes) -> Result<(), NoMemory>
     ensures { OnOk result (as_pairs tables.new ≡ as_pairs tables.old ++ call_pairs sizes) }
 {

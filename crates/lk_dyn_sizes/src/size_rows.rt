@@ -15,18 +15,18 @@ pub struct TableSize {
 /// Tables with their sizes, in order.
 pub type TableSizeList = List<TableSize>;
 
-/// What the tables of a dynamic link hold.
+/// The counts that decide the sizes of the tables of a dynamic link.
 #[derive(Clone, Copy)]
 pub struct DynamicCounts {
     /// The bytes of the path of the dynamic linker, with its closing zero.
     pub interp: u64,
     /// The entries of the table of dynamic symbols.
     pub symbols: u64,
-    /// The bytes of the table of texts.
+    /// The bytes of the string table.
     pub strings: u64,
     /// The slots and copies that the dynamic linker fills at the start.
     pub fills: u64,
-    /// The entries of the procedure linkage table, but for the one that they share.
+    /// The entries of the procedure linkage table, except the first, which the others share.
     pub calls: u64,
     /// The entries of the dynamic section.
     pub entries: u64,

@@ -45,7 +45,7 @@ fn hash_words(symbols: u64) -> Result<u64, NoMemory>
     plus(plus(2, buckets)?, symbols)
 }
 
-/// What the tables of a dynamic link hold.
+/// The counts that decide the sizes of the tables of a dynamic link.
 fn dynamic_counts(
     alloc: Global,
     resolution: &Resolution,
@@ -81,7 +81,7 @@ fn dynamic_counts(
     })
 }
 
-/// The sizes of the tables that hold this.
+/// The sizes of the tables with these counts.
 fn sizes_of(counts: DynamicCounts) -> Result<DynamicSizes, NoMemory>
     ensures { IfOk result (λ sizes. sizes ≡ sizes_of counts) }
 {
@@ -104,7 +104,7 @@ fn sizes_of(counts: DynamicCounts) -> Result<DynamicSizes, NoMemory>
 /// sections that kept pieces go to, of which the arrays of functions have entries in `.dynamic`.
 ///
 /// # Errors
-/// Out of memory; a size that has no room in 64 bits is answered so too.
+/// Out of memory. A size that is greater than 64 bits is reported so too.
 pub fn table_sizes(
     alloc: Global,
     resolution: &Resolution,
@@ -118,7 +118,7 @@ pub fn table_sizes(
     tables_of(alloc, resolution, inputs, needs, options, keys)
 }
 
-/// The tables with their sizes, as what is resolved reports them.
+/// The tables with their sizes, by a `Resolution`, the summaries of the inputs, the needs and the options.
 fn tables_of(
     alloc: Global,
     resolution: &Resolution,

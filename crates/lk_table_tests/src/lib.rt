@@ -1,4 +1,4 @@
-//! Tests of what inputs decide, and of the sizes of the tables that they need, by small links whose numbers are
+//! Tests of the resolution of inputs, and of the sizes of the tables of a link, by small links whose numbers are
 //! counted by hand.
 //!
 //! They are in a crate of their own above the crates that they call, since a crate with tests is proved

@@ -61,7 +61,7 @@ pub fn added(mut resolver: Resolver, inputs: &SummaryList) -> Result<Resolver, N
     Ok(resolver)
 }
 
-/// What is resolved, where no name has a fault.
+/// The resolution of the inputs that were added, where no name has a fault.
 pub fn resolved(resolver: Resolver) -> Result<Resolution, NoMemory> {
     match resolver.settle() {
         Ok(resolution) => Ok(resolution),

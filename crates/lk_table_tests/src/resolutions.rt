@@ -133,13 +133,13 @@ fn with_group(
     Ok(resolver)
 }
 
-/// What is resolved of an object, and of a lib group of the two members after it.
+/// The resolution of an object and of a lib group of the two members after it.
 fn with_members(alloc: Global, object: &InputSummary) -> Result<Resolution, NoMemory> {
     let members = members(alloc)?;
     resolved(with_group(alloc, object, &members)?)
 }
 
-/// Whether a name has this meaning; no name has none.
+/// Whether a name has this winner; none where the resolution does not have the name.
 fn means(alloc: Global, resolution: &Resolution, name: &[u8], wanted: Option<Winner>) -> bool {
     let Ok(name) = Name::from_slice(alloc, name) else {
         return false;
@@ -173,7 +173,7 @@ fn a_weak_reference_adds_no_member(rt: HostRuntime) -> Result<(), NoMemory> {
     Ok(())
 }
 
-/// What is resolved of an object that is added twice.
+/// The resolution of an object that is added twice.
 fn resolved_twice(alloc: Global, object: &InputSummary) -> Result<Resolution, NoMemory> {
     resolved(with_twice(alloc, object)?)
 }
@@ -225,7 +225,7 @@ fn commons(alloc: Global) -> Result<SummaryList, NoMemory> {
     Ok(objects)
 }
 
-/// What is resolved of these objects.
+/// The resolution of these objects.
 fn resolution_of(alloc: Global, objects: &SummaryList) -> Result<Resolution, NoMemory> {
     resolved(added(with_paths(alloc)?, objects)?)
 }

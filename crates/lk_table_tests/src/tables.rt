@@ -40,7 +40,7 @@ fn object(alloc: Global) -> Result<InputSummary, NoMemory> {
     input(alloc, Kind::Object, b"", &rows)
 }
 
-/// A library that defines `puts` and `environ`, and asks for `hook`.
+/// A library that defines `puts` and `environ`, and refers to `hook`.
 fn library(alloc: Global) -> Result<InputSummary, NoMemory> {
     let rows: [(&[u8], Home); 3] = [
         (b"puts", Home::Shared),
@@ -62,7 +62,7 @@ fn two(alloc: Global) -> Result<SummaryList, NoMemory> {
     both(alloc, object, library)
 }
 
-/// What these inputs decide.
+/// The resolution of these inputs.
 fn resolution(alloc: Global, inputs: &SummaryList) -> Result<Resolution, NoMemory> {
     resolved(added(resolver(alloc)?, inputs)?)
 }
@@ -123,7 +123,7 @@ fn keys(alloc: Global) -> Result<SectionKeyList, NoMemory> {
     )
 }
 
-/// The tables of a link of what these inputs decide.
+/// The tables of a link with this resolution.
 fn tables_of(
     alloc: Global,
     resolution: &Resolution,
@@ -166,7 +166,7 @@ fn a_dynamic_link_has_ten_tables(rt: HostRuntime) -> Result<(), NoMemory> {
     Ok(())
 }
 
-/// What the object and the library decide.
+/// The resolution of the object and the library.
 fn dynamic(alloc: Global) -> Result<Resolution, NoMemory> {
     let inputs = two(alloc)?;
     resolution(alloc, &inputs)
