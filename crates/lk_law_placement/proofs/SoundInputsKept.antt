@@ -9,10 +9,10 @@ use Rattle.lk_report.specs.declared.faults.Fault.TheVariants as faults
 use Rattle.lk_report.specs.declared.faults.InputFault.{InputFault}
 use Rattle.lk_model.specs.Adding.{added_inputs}
 use Rattle.lk_model.specs.Elf.{elf_of, elf_under, elf_with}
-use Rattle.lk_model.specs.Finding.{FoundInput, found_of, is_dynamic}
+use Rattle.lk_model.specs.Finding.{Found, found_of, is_dynamic}
 use Rattle.lk_model.specs.Groups.{is_left}
 use Rattle.lk_model.specs.Inputs.{count_of, fault_by, input_fault_in, input_faults_of, input_words, inputs_after, inputs_of, input_with, is_read_as_shared, reads_as_shared, summary_by}
-use Rattle.lk_model.specs.Inputs.{FoundInput as FoundFile, found_in}
+use Rattle.lk_model.specs.Inputs.{FoundInput, found_in}
 use Rattle.lk_model.specs.KeptPieces.{common_piece, copy_piece, kept_sections, loaded_names, name_piece, name_pieces, pieces_left, section_piece}
 use Rattle.lk_model.specs.NeedsOf.{needs_of}
 use Rattle.lk_model.specs.Numbered.{Numbered, is_number_in}
@@ -98,7 +98,7 @@ pub pieces_of_sound_summaries : (options : OptionRecord) (inputs : List Input) �
 unfolding resolve found_of
 pieces_of_sound_summaries options inputs sound =
     let added : List Numbered = added_inputs options.entry inputs in
-    let found : FoundInput = found_of (paths_of inputs) options.entry added in
+    let found : Found = found_of (paths_of inputs) options.entry added in
     let copies : List ℕ = (needs_of found (sited_of found.names inputs found.sections)).copies in
     let all = added_inputs_have SoundSummary options.entry inputs sound in
     all_joined SoundPiece (kept_sections added) (name_pieces copies found.names found.winners)
@@ -141,7 +141,7 @@ none_first None xs e = (refl, e)
 none_first (Some x) xs e = absurd (cons_not x xs e)
 
 -- the inputs of a command are what their files hold
-inputs_are_sound : (earlier : List (List ℕ)) (files : List FoundFile) → filter_map input_fault_in (inputs_after earlier files) ≡ [] → SoundInputs (inputs_after earlier files)
+inputs_are_sound : (earlier : List (List ℕ)) (files : List FoundInput) → filter_map input_fault_in (inputs_after earlier files) ≡ [] → SoundInputs (inputs_after earlier files)
 unfolding inputs_after elf_of elf_under elf_with reads_as_shared
 inputs_are_sound earlier [] none = tt
 inputs_are_sound earlier (file ∷ files) none =
