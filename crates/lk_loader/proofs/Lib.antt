@@ -1,0 +1,8 @@
+pub mod ClosedTexts
+pub mod Ranges
+pub mod EntriesCounted
+pub mod AllOf
+pub mod HeaderRefusals
+pub mod RunsGathered
+pub mod PartsNamed
+pub mod ImagesLoaded

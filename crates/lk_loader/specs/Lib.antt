@@ -1,0 +1,6 @@
+pub mod Runs
+pub mod LoadFaults
+pub mod LoadedImages
+pub mod HeaderRows
+pub mod Gathering
+pub mod NamedTables
