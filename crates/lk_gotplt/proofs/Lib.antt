@@ -1,0 +1,3 @@
+pub mod QueueCounts
+pub mod SlotsFree
+pub mod KeysPlaced
