@@ -25,7 +25,7 @@ use Rattle.lk_model.specs.Objects.{pieces_in, summary_in}
 use Rattle.lk_model.specs.Resolving.{paths_of, resolve}
 use Rattle.lk_model.specs.Views.{Elf, Input}
 use Rattle.lk_law_placement.specs.SoundInputs.{SoundInput, SoundInputs}
-use Rattle.lk_law_placement.proofs.SoundInputsAdded.{added_inputs_have}
+use Rattle.lk_model.proofs.AddedOnce.{added_inputs_have}
 use Rattle.lk_scan_inputs.specs.Objects.{AreObjects, IsObject}
 use Rattle.lk_inputs.specs.declared.input_files.InputFile.{InputFile}
 use Rattle.lk_inputs.specs.declared.inputs.Inputs.{Inputs}

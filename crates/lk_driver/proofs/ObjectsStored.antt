@@ -62,7 +62,7 @@ object_stored added xs n sound in_added is =
     let state : slice_get (objects_of added (files_of xs)) n ≡ Some (Some x.elf.bytes) = object_there 0 added xs n x here is.there in
     record {
       bytes = x.elf.bytes;
-      state = ap (λ (o : Option (Option (List ℕ))). elim o as (λ _. Option (List ℕ)) [ None ↦ None | Some p ↦ p ]) state;
+      in_object = ap (λ (o : Option (Option (List ℕ))). elim o as (λ _. Option (List ℕ)) [ None ↦ None | Some p ↦ p ]) state;
       object = record { input = x; there = is.there; file = object.file; summary = object.summary };
     }
 
