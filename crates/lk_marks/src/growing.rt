@@ -1,7 +1,7 @@
 //! Lists by number, which grow where a number is first used. One list can serve one object after another, so that
 //! none is allocated anew for each.
 
-ghost use Rattle.std.specs.Prelude.{◌≡◌, ℕ, ◌<◌, length, get_or, OnOk};
+ghost use Rattle.std.specs.Prelude.{◌≡◌, ℕ, ◌<◌, length, get_or, OnErr, OnOk};
 
 use lk_report::NoMemory;
 
@@ -9,10 +9,11 @@ use lk_report::NoMemory;
 /// end counts as.
 ///
 /// # Errors
-/// Out of memory.
+/// Out of memory: the list is as it was.
 pub fn make_room<T: Copy>(items: &mut Vec<T>, number: u32, empty: T) -> Result<(), NoMemory>
     ensures room { OnOk result (number < length items.new.items) }
     ensures same { OnOk result ((k : ℕ) → get_or items.new.items k empty ≡ get_or items.old.items k empty) }
+    ensures kept { OnErr result (items.new.items ≡ items.old.items) }
 {
     if (number as usize) < items.len() {
         return Ok(());

@@ -1,6 +1,6 @@
 //! Marks by number, as a list that grows to the greatest number that was marked.
 
-ghost use Rattle.std.specs.Prelude.{◌≡◌, ◌<◌, ℕ, ◌||◌, ◌==◌, [], false, nat_eq, get_or, length, IfOk, OnOk};
+ghost use Rattle.std.specs.Prelude.{◌≡◌, ◌<◌, ℕ, ◌||◌, ◌==◌, [], false, nat_eq, get_or, length, IfOk, OnErr, OnOk};
 ghost use Rattle.lk_marks.specs.Marked.{is_marked, marks_of};
 
 use crate::growing::make_room;
@@ -57,9 +57,10 @@ impl Marks {
     /// Marks one number more.
     ///
     /// # Errors
-    /// Out of memory.
+    /// Out of memory: the marks are as they were.
     pub fn mark(&mut self, number: u32) -> Result<(), NoMemory>
-        ensures { OnOk result ((k : ℕ) → is_marked self.new k ≡ (is_marked self.old k || k == number)) }
+        ensures marked { OnOk result ((k : ℕ) → is_marked self.new k ≡ (is_marked self.old k || k == number)) }
+        ensures kept { OnErr result (self.new ≡ self.old) }
     {
         make_room(&mut self.by_number, number, false)?;
         self.by_number[number as usize] = true;

@@ -236,7 +236,7 @@ open_checks (Some number) = (true, OpenLib number) ∷ []
 
 -- ---- the command
 
--- the words named `with_..` tell the value after one more phrase: the last phrase that gives one counts
+-- the words named `with_..` give the value after one more phrase: the last phrase that gives one counts
 
 -- the output's path
 abbrev pub with_output : List ℕ → Phrase → List ℕ

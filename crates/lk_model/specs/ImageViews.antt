@@ -69,7 +69,7 @@ sections_with_pieces_of place = map (section_of_key place) (each_once (filter_ma
 abbrev pub dynamic_names_in : List ℕ → List (List ℕ)
 dynamic_names_in image = drop 1 (map (λ (s : LoadedSymbol). s.name) (dynamic_symbols_in image))
 
--- the view that records and an image's dynamic section tell
+-- the view that the records and the dynamic section of an image give
 abbrev pub view_with : List ℕ → Records → View
 view_with image r = record {
   sections = sections_with_pieces_of r.placement;

@@ -11,22 +11,22 @@ use Rattle.lk_model.specs.declared.records.NameRow.{NameRow}
 abbrev pub is_of_input : ℕ → Bool
 is_of_input kind = kind == 1 || kind == 3 || kind == 5
 
--- the winner's input, which is reported as the number plus 1: one of so many inputs, or 0 where the kind of
+-- the winner's input, which is recorded as the number plus 1: one of so many inputs, or 0 where the kind of
 -- winner has none
-abbrev pub input_reported : ℕ → ℕ → Option (Option ℕ)
-input_reported inputs zero = None
-input_reported inputs (suc n) = if nat_le (suc n) inputs then Some (Some n) else None
+abbrev pub input_recorded : ℕ → ℕ → Option (Option ℕ)
+input_recorded inputs zero = None
+input_recorded inputs (suc n) = if nat_le (suc n) inputs then Some (Some n) else None
 
 abbrev pub winner_input_with : ℕ → ℕ → ℕ → Option (Option ℕ)
-winner_input_with inputs kind reported =
-    if is_of_input kind then input_reported inputs reported else (if reported == 0 then Some None else None)
+winner_input_with inputs kind recorded =
+    if is_of_input kind then input_recorded inputs recorded else (if recorded == 0 then Some None else None)
 
 -- a name, of so many inputs and references
 abbrev pub name_with : ℕ → ℕ → Values name_forms → Option NameRow
-name_with inputs references (name, (first, (kind, (reported, _)))) =
+name_with inputs references (name, (first, (kind, (recorded, _)))) =
     if nat_le kind 5 then
     (if nat_le first references then
-    option_map (λ i. record { name = name; winner = kind; input = i }) (winner_input_with inputs kind reported)
+    option_map (λ i. record { name = name; winner = kind; input = i }) (winner_input_with inputs kind recorded)
     else None)
     else None
 

@@ -36,7 +36,7 @@ share_no_file_byte row earlier = not (in_file row.key.class) || not (in_file ear
 abbrev pub row_is_beside : SectionRow → SectionRow → Bool
 row_is_beside row earlier = not (same_key row.key earlier.key) && share_no_address row earlier && share_no_file_byte row earlier
 
--- whether a room ends where a field can tell it
+-- whether the end of a room is a number that a field holds
 abbrev pub ends_in_bounds : ℕ → ℕ → Bool
 ends_in_bounds start room = nat_lt (start + room) (2 ^ 64)
 
@@ -75,13 +75,13 @@ place_is_good rows before None = true
 place_is_good rows before (Some piece) = is_good_place rows before piece
 
 -- whether a placement can distinguish two pieces of one input, which it knows by their section numbers
-abbrev pub are_reported_apart : ReadPiece → ReadPiece → Bool
-are_reported_apart a b = not (a.info.section == b.info.section) || (is_none a.placed && is_none b.placed)
+abbrev pub are_distinguished : ReadPiece → ReadPiece → Bool
+are_distinguished a b = not (a.info.section == b.info.section) || (is_none a.placed && is_none b.placed)
 
 -- whether a piece of an input may follow these placed pieces, and these pieces of the input
 unfoldable pub is_good_piece : List SectionRow → List PieceRow → List ReadPiece → ReadPiece → Bool
 is_good_piece rows before earlier piece =
-    is_field_power piece.info.align && place_is_good rows before piece.placed && list_all (are_reported_apart piece) earlier
+    is_field_power piece.info.align && place_is_good rows before piece.placed && list_all (are_distinguished piece) earlier
 
 -- ---- symbols
 

@@ -35,7 +35,7 @@ only_bytes elf (a ∷ b ∷ more) = None
 abbrev pub named_bytes : Elf → List ℕ → Option (List ℕ)
 named_bytes elf name = only_bytes elf (filter (is_named_section elf name) (enumerate_from 0 elf.sections))
 
--- what the record sections of an image tell
+-- what the record sections of an image hold
 unfoldable pub records_in : List ℕ → Option ReadInputs
 records_in image =
     let elf = elf_of image in

@@ -46,7 +46,7 @@ placed_rows_of x made = flat_map (placed_of x) (placing_order x) ++ made
 abbrev pub record_of_input : ReadInput → InputRecord
 record_of_input i = i.record_of
 
--- the records that the sections tell
+-- the records that the sections hold
 unfoldable pub records_with : ReadInputs → List NameRow → List Reference → ReadSlots → Records
 records_with x names references slots = record {
   version = records_version;

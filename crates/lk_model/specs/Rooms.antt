@@ -51,7 +51,7 @@ sequence_end pieces = fold (λ cursor piece. sequence_offset cursor piece + piec
 abbrev pub is_digit : ℕ → Bool
 is_digit byte = nat_le 48 byte && nat_le byte 57
 
--- the number that the digits tell
+-- the number that the digits spell
 abbrev pub decimal_of : List ℕ → ℕ
 decimal_of digits = fold (λ n digit. n * 10 + (digit - 48)) 0 digits
 

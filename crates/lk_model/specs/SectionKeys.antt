@@ -9,7 +9,7 @@ use Rattle.lk_model.specs.declared.layouts.FillKind.{FillKind}
 use Rattle.lk_model.specs.declared.layouts.FillKind.TheVariants as fill
 use Rattle.lk_model.specs.declared.layouts.SectionKey.{SectionKey}
 
--- a class by its number, which the records tell
+-- a class by its number, which is the one in the records
 abbrev pub class_number : Class → ℕ
 class_number R = 0
 class_number X = 1

@@ -101,7 +101,7 @@ pub struct SectionRow {
     pub addr: u64,
     /// The offset in the file.
     pub offset: u64,
-    /// The size that headers tell.
+    /// The size that its header has, in bytes (gABI "Section Header Table", `sh_size`).
     pub size: u64,
     /// The bytes that are reserved.
     pub room: u64,

@@ -12,7 +12,7 @@ pub record Spoken : Type 0 where
 abbrev pub Rose : ℕ → ℕ → Type 0
 Rose before now = min before (2 ^ 64 - 2) < now
 
--- some prefix of the bytes was appended; nothing is said of a sink that does not tell
+-- some prefix of the bytes was appended; of a sink that does not show what it holds nothing is said
 abbrev pub AppendsPrefix : List ℕ → Option (List ℕ) → Option (List ℕ) → Type 0
 AppendsPrefix bytes None None = Unit {0}
 AppendsPrefix bytes (Some old) (Some new) = (k : ℕ) × (k ≤ length bytes) × (new ≡ old ++ take k bytes)
