@@ -13,7 +13,7 @@ use lk_report::NoMemory;
 use std::alloc::Global;
 
 /// Whether so many bytes at this place lie in the file.
-pub(crate) fn lies_in(bytes: &[u8], at: u64, size: u64) -> bool
+pub fn lies_in(bytes: &[u8], at: u64, size: u64) -> bool
     ensures value { result ≡ lies_in bytes.now at size }
     ensures numbers { OnTrue result (at + size ≤ length bytes.now) }
 {

@@ -27,14 +27,14 @@ mod symbols;
 mod target_rows;
 mod texts;
 
-pub use file_table::read_sections;
+pub use file_table::{lies_in, read_sections};
 pub use group_checks::groups_fault;
 pub use groups::{groups_of, word_under};
 pub use overlaps::overlap_fault;
 pub use relocation_checks::rela_faults;
 pub use relocations::relas_under;
-pub use section_checks::{sections_fault, table_fault};
+pub use section_checks::{is_cut_off, is_of_type, sections_fault, table_fault};
 pub use signatures::signature_of;
 pub use symbol_checks::{symbol_table_fault, symbols_fault};
-pub use symbols::{globals_of, local_of, read_symbols, symbol_table};
-pub use texts::{name_at, section_name};
+pub use symbols::{globals_of, local_of, read_symbols, symbol_at, symbol_table};
+pub use texts::{header_at, name_at, rest_from, section_bytes, section_name, text_in};

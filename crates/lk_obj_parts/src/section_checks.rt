@@ -29,7 +29,7 @@ const SMALL_POWERS: [u64; 21] = [
 ];
 
 /// Whether a section, by number, is of a type.
-pub(crate) fn is_of_type(sections: &[Shdr], code: u32, n: u32) -> bool
+pub fn is_of_type(sections: &[Shdr], code: u32, n: u32) -> bool
     ensures { result ≡ is_of_type_in sections.now code n }
 {
     match header_at(sections, n) {
@@ -63,7 +63,7 @@ pub fn table_fault(bytes: &[u8], header: &Ehdr, sections: &[Shdr]) -> Option<Inp
 }
 
 /// Whether the file does not hold a section's bytes.
-fn is_cut_off(bytes: &[u8], section: &Shdr) -> bool
+pub fn is_cut_off(bytes: &[u8], section: &Shdr) -> bool
     ensures { result ≡ is_cut_off_in bytes.now section.now }
 {
     section.sh_type != SHT_NULL

@@ -40,7 +40,8 @@ pub fn symbol_table(sections: &[Shdr]) -> Option<(u32, Shdr)>
     None
 }
 
-fn symbol_at(bytes: &[u8], at: usize) -> Sym
+/// The symbol at this place.
+pub fn symbol_at(bytes: &[u8], at: usize) -> Sym
     requires { at + 24 ≤ length bytes.now }
     ensures { result ≡ sym_at bytes.now at }
 {

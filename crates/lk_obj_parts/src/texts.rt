@@ -8,7 +8,7 @@ ghost use Rattle.lk_obj_parts.specs.ElfViews.{elf_from, header_at};
 use lk_elf::{Ehdr, Shdr};
 
 /// What is from `at` on; nothing past the end.
-pub(crate) fn rest_from(bytes: &[u8], at: usize) -> &[u8]
+pub fn rest_from(bytes: &[u8], at: usize) -> &[u8]
     ensures { result.now ≡ drop at bytes.now }
 {
     if at < bytes.len() { &bytes[at..] } else { &[] }
@@ -26,7 +26,7 @@ fn front_of(bytes: &[u8], size: usize) -> &[u8]
 }
 
 /// The bytes of a section, as far as the file has them.
-pub(crate) fn section_bytes<'a>(bytes: &'a [u8], header: &Shdr) -> &'a [u8]
+pub fn section_bytes<'a>(bytes: &'a [u8], header: &Shdr) -> &'a [u8]
     ensures { result.now ≡ take header.now.sh_size (drop header.now.sh_offset bytes.now) }
 {
     front_of(
@@ -43,7 +43,7 @@ fn zero_in(bytes: &[u8]) -> Option<usize>
 
 /// A text up to its closing zero; none where no zero follows.
 #[tactic(auto, using(crate::proofs::ClosedTexts::text_none, crate::proofs::ClosedTexts::text_some))]
-fn text_in(bytes: &[u8]) -> Option<&[u8]>
+pub fn text_in(bytes: &[u8]) -> Option<&[u8]>
     ensures { option_copied result ≡ text_in bytes.now }
 {
     match zero_in(bytes) {
@@ -53,7 +53,7 @@ fn text_in(bytes: &[u8]) -> Option<&[u8]>
 }
 
 /// The header of a section by its number; none for number 0, which names no section.
-pub(crate) fn header_at(sections: &[Shdr], n: u32) -> Option<&Shdr>
+pub fn header_at(sections: &[Shdr], n: u32) -> Option<&Shdr>
     ensures { option_copied result ≡ header_at sections.now n }
 {
     if n == 0 {

@@ -1,1 +1,2 @@
 pub mod FaultsFirst
+pub mod KindsKnown

@@ -1,1 +1,2 @@
 pub mod FrontChecks
+pub mod Readings

@@ -1,0 +1,4 @@
+pub mod SharedParts
+pub mod DynamicParts
+pub mod OfferedSymbols
+pub mod SymbolRows

@@ -1,0 +1,66 @@
+//! The symbols of a shared object in one pass (gABI "Symbol Table"): each entry is read where it lies in the
+//! file, its name is looked at, and it is kept if other files may mean it.
+
+ghost use Rattle.std.specs.Prelude.{◌≡◌, ◌+◌, ◌*◌, ◌<◌, ◌≤◌, ◌^◌, Some, length, IfOk};
+ghost use Rattle.lk_model.specs.Checks.{first_fault};
+ghost use Rattle.lk_model.specs.Elf.{elf_of};
+ghost use Rattle.lk_model.specs.SharedChecks.{shared_name_checks};
+ghost use Rattle.lk_model.specs.SharedObjects.{offered_under, without_repeated};
+ghost use Rattle.lk_so_read.specs.SymbolRows.{symbol_count};
+ghost use Rattle.lk_summary.specs.Readings.{ReadGives};
+
+use crate::offered_symbols::Offered;
+use crate::string_texts::text_at;
+use lk_elf::Shdr;
+use lk_elf::numbers::SYM_SIZE;
+use lk_model::summaries::GlobalList;
+use lk_obj_parts::{lies_in, symbol_at};
+use lk_report::{InputFault, NoMemory};
+use lk_summary::ReadFailure;
+use std::alloc::Global;
+
+/// How many symbols a table has in the file; none where its bytes do not lie in it.
+///
+/// # Errors
+/// Out of memory, for 2^32 symbols or more, which numbers of 32 bits do not distinguish.
+fn symbol_count(bytes: &[u8], table: &Shdr) -> Result<usize, NoMemory>
+    ensures value { IfOk result (λ count. count ≡ symbol_count bytes.now table.now) }
+    ensures few { IfOk result (λ count. count < 2 ^ 32) }
+    ensures numbers { IfOk result (λ count. 0 < count → table.now.sh_offset + 24 * count ≤ length bytes.now) }
+{
+    if !lies_in(bytes, table.sh_offset, table.sh_size) {
+        return Ok(0);
+    }
+    let count = table.sh_size as usize / SYM_SIZE;
+    if count > u32::MAX as usize {
+        return Err(NoMemory);
+    }
+    Ok(count)
+}
+
+/// The symbols of a table that other files may mean: references, and the first definition of each name.
+///
+/// # Errors
+/// A symbol from entry 1 on without a name; out of memory.
+pub(crate) fn offered_symbols(
+    alloc: Global,
+    bytes: &[u8],
+    sections: &[Shdr],
+    table: &(u32, Shdr),
+) -> Result<GlobalList, ReadFailure>
+    requires read { sections.now ≡ (elf_of bytes.now).sections }
+    ensures { ReadGives (first_fault (shared_name_checks (elf_of bytes.now) (Some table.now))) (λ globals. globals ≡ without_repeated (offered_under (elf_of bytes.now) table.now)) result }
+{
+    let at = table.1.sh_offset as usize;
+    let count = symbol_count(bytes, &table.1)?;
+    let mut offered = Offered::with_capacity(alloc, count)?;
+    for k in 1..count {
+        let symbol = symbol_at(bytes, at + SYM_SIZE * k);
+        let name = text_at(bytes, sections, table.1.sh_link, u64::from(symbol.st_name));
+        let Some(name) = name else {
+            return Err(ReadFailure::Input(InputFault::BadName(table.0)));
+        };
+        offered.add(k as u32, &symbol, name)?;
+    }
+    Ok(offered.into_list())
+}
