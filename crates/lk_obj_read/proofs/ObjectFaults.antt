@@ -1,23 +1,22 @@
 -- The first fault of an object by the first faults of its parts.
-use Rattle.std.specs.Prelude.{◌≡◌, ◌<◌, ◌==◌, refl, ℕ, Bool, true, false, not, ◌&&◌, if◌then◌else◌, List, [], ◌∷◌, ◌++◌, flat_map, length, nat_lt, Option, Some, None, Result, Ok, Err}
-use Rattle.std.proofs.Common.{ap, append_assoc, arith, subst, sym, ◌∙◌}
-use Rattle.std.proofs.lemmas.Bool.Decides.{nat_tests}
-use Rattle.lk_elf.specs.Numbers.{ehdr_size, et_rel, sht_symtab}
+use Rattle.std.specs.Prelude.{◌≡◌, ◌<◌, ◌==◌, refl, ℕ, Bool, true, false, if◌then◌else◌, List, [], ◌∷◌, ◌++◌, flat_map, length, Option, Some, None, Ok, Err}
+use Rattle.std.proofs.Common.{ap, append_assoc, subst, sym, ◌∙◌}
+use Rattle.lk_elf.specs.Numbers.{et_rel, sht_symtab}
 use Rattle.lk_elf.specs.Records.{ehdr_at}
 use Rattle.lk_elf.specs.declared.file_header.Ehdr.{Ehdr}
 use Rattle.lk_elf.specs.declared.section_header.Shdr.{Shdr}
 use Rattle.lk_elf.specs.declared.symbol.Sym.{Sym}
 use Rattle.lk_report.specs.declared.faults.InputFault.{InputFault}
-use Rattle.lk_report.specs.declared.faults.InputFault.TheVariants.{Archive, Script, NotElf}
 use Rattle.lk_model.specs.Checks.{first_fault}
 use Rattle.lk_model.specs.Elf.{elf_of, first_of_type, numbered, section_headers_of, symbol_table, symbols_of}
-use Rattle.lk_model.specs.Kinds.{has_magic, header_checks, is_archive, is_text, kind_checks, kind_of, kind_with}
+use Rattle.lk_model.specs.Kinds.{kind_checks, kind_of, kind_with}
 use Rattle.lk_model.specs.ObjectChecks.{group_checks_after, object_checks, object_fault, object_fault_after, overlap_checks, rela_section_checks, rela_sections, section_checks, symbol_checks, symbol_table_checks, table_checks}
 use Rattle.lk_model.specs.Objects.{group_sections, is_piece_in}
 use Rattle.lk_model.specs.Views.{Elf}
 use Rattle.lk_model.specs.declared.summaries.Kind.{Kind}
 use Rattle.lk_model.specs.declared.summaries.Kind.TheVariants.{Object, Shared}
 use Rattle.lk_obj_parts.specs.ElfViews.{elf_from}
+use Rattle.lk_summary.proofs.KindsKnown.{after_kind, fault_of_kind, no_header}
 use Rattle.lk_obj_read.specs.ObjectParts.{reference_half, table_half}
 use Rattle.lk_obj_parts.proofs.SymbolsUnread.{elf_parts, sections_unread, table_unread}
 
@@ -144,47 +143,15 @@ references_reported elf e = ap (λ cs. first_fault cs) (halves elf) ∙ passes (
 
 -- ---- the kind
 
-of_kind : (o : Option InputFault) (h : Ehdr) (bytes : List ℕ) (f : InputFault) → kind_with o h ≡ Err f → object_fault_after o bytes ≡ Some f
-of_kind (Some g) h bytes f e = ap (λ (r : Result Kind InputFault). elim r [ Ok k ↦ Some g | Err x ↦ Some x ]) e
-of_kind None h bytes f e = absurd (no_error _ f e)
-  where
-    no_error : (k : Kind) (f : InputFault) → Ok k ≡ Err f → ⊥
-    no_error k f e = subst (λ t. t) (ap (λ (r : Result Kind InputFault). elim r [ Ok k ↦ Unit {0} | Err x ↦ ⊥ ]) e) tt
-
 -- a file that has a fault of its kind has it as an object
 pub kind_reported : (bytes : List ℕ) (f : InputFault) → kind_of bytes ≡ Err f → object_fault bytes ≡ Some f
 unfolding kind_of object_fault
-kind_reported bytes f e = of_kind (first_fault (kind_checks bytes)) (ehdr_at bytes 0) bytes f e
-
-after_kind : (o : Option InputFault) (h : Ehdr) (k : Kind) → kind_with o h ≡ Ok k → o ≡ None
-after_kind None h k e = refl
-after_kind (Some g) h k e = absurd (subst (λ t. t) (ap (λ (r : Result Kind InputFault). elim r [ Ok k ↦ ⊥ | Err x ↦ Unit {0} ]) e) tt)
+kind_reported bytes f e = ap (λ o. object_fault_after o bytes) (fault_of_kind (first_fault (kind_checks bytes)) (ehdr_at bytes 0) f e)
 
 -- any other has the fault of its checks
 pub checks_reported : (bytes : List ℕ) (k : Kind) → kind_of bytes ≡ Ok k → object_fault bytes ≡ first_fault (object_checks (elf_of bytes))
 unfolding kind_of object_fault
 checks_reported bytes k e = ap (λ o. object_fault_after o bytes) (after_kind (first_fault (kind_checks bytes)) (ehdr_at bytes 0) k e)
-
-short_stops : (a m t : Bool) (rest : List (Bool × InputFault)) → first_fault ((a, Archive) ∷ (not m && t, Script) ∷ (not m, NotElf) ∷ (true, NotElf) ∷ rest) ≡ None → ⊥
-short_stops a m t rest e = some_none _ (fault_there a m t rest) e
-  where
-    some_none : (o : Option InputFault) → ((f : InputFault) × (o ≡ Some f)) → o ≡ None → ⊥
-    some_none o (f, e) n = subst (λ t. t) (ap (λ (p : Option InputFault). elim p [ Some x ↦ Unit {0} | None ↦ ⊥ ]) (sym e ∙ n)) tt
-
-    fault_there : (a m t : Bool) (rest : List (Bool × InputFault)) → (f : InputFault) × (first_fault ((a, Archive) ∷ (not m && t, Script) ∷ (not m, NotElf) ∷ (true, NotElf) ∷ rest) ≡ Some f)
-    fault_there true m t rest = (Archive, refl)
-    fault_there false true t rest = (NotElf, refl)
-    fault_there false false true rest = (Script, refl)
-    fault_there false false false rest = (NotElf, refl)
-
--- a file whose kind is reported has a header
-pub no_header : (bytes : List ℕ) (k : Kind) → kind_of bytes ≡ Ok k → length bytes < 64 → ⊥
-unfolding kind_of kind_checks
-no_header bytes k e short =
-    let none = after_kind (first_fault (kind_checks bytes)) (ehdr_at bytes 0) k e in
-    let is_short : nat_lt (length bytes) ehdr_size ≡ true = grind (arith, nat_tests, short) in
-    short_stops (is_archive bytes) (has_magic bytes) (is_text bytes) (header_checks (ehdr_at bytes 0))
-    (ap (λ (b : Bool). first_fault ((is_archive bytes, Archive) ∷ (not (has_magic bytes) && is_text bytes, Script) ∷ (not (has_magic bytes), NotElf) ∷ (b, NotElf) ∷ header_checks (ehdr_at bytes 0))) (sym is_short) ∙ none)
 
 -- the first fault of a kind is one of the file
 kind_sound : (o : Option InputFault) (bytes : List ℕ) → object_fault_after o bytes ≡ None → o ≡ None

@@ -1,29 +1,19 @@
--- What reading an object answers, the parts that are read for it, and what an object holds of its bytes
--- (gABI "Sections", "Symbol Table", "Relocation").
-use Rattle.std.specs.Prelude.{◌≡◌, ℕ, ◌+◌, ◌*◌, ◌^◌, ◌<◌, ◌≤◌, List, [], length, map, slice_index_or, Option, Some, None, Result, Ok, Err}
+-- The parts that are read for an object, and what an object holds of its bytes (gABI "Sections", "Symbol
+-- Table", "Relocation").
+use Rattle.std.specs.Prelude.{◌≡◌, ℕ, ◌+◌, ◌*◌, ◌^◌, ◌<◌, ◌≤◌, List, [], length, map, slice_index_or, None}
 use Rattle.std.specs.List.{range_with_len}
 use Rattle.lk_elf.specs.Numbers.{sym_size}
 use Rattle.lk_elf.specs.Records.{sym_at}
 use Rattle.lk_elf.specs.declared.section_header.Shdr.{Shdr}
 use Rattle.lk_elf.specs.declared.symbol.Sym.{Sym}
 use Rattle.lk_elf.specs.declared.relocation.Rela.{Rela}
-use Rattle.lk_report.specs.declared.faults.InputFault.{InputFault}
 use Rattle.lk_model.specs.declared.summaries.InputSummary.{InputSummary}
 use Rattle.lk_model.specs.Elf.{elf_of}
 use Rattle.lk_model.specs.ObjectChecks.{object_fault}
 use Rattle.lk_model.specs.Objects.{relocations_in, summary_in}
 use Rattle.lk_obj_parts.specs.ElfViews.{elf_from}
-use Rattle.lk_obj_read.specs.declared.failures.ReadFailure.{ReadFailure}
-use Rattle.lk_obj_read.specs.declared.failures.ReadFailure.TheVariants.{Input, NoMemory}
 use Rattle.lk_obj_read.specs.declared.file_parts.FileParts.{FileParts}
 use Rattle.lk_obj_read.specs.declared.symbol_places.SymbolPlace.{SymbolPlace}
-
--- what is answered of a file with this first fault: the fault, or where there is none a value of which
--- this holds; out of memory is tied to no cause
-abbrev pub ReadGives : {X : Type 0} → Option InputFault → (X → Type 0) → Result X ReadFailure → Type 0
-ReadGives fault P (Ok x) = (fault ≡ None) × P x
-ReadGives fault P (Err (Input reported)) = fault ≡ Some reported
-ReadGives fault P (Err NoMemory) = Unit {0}
 
 -- the parts of the file that bytes are
 pub record ArePartsOf (bytes : List ℕ) (parts : FileParts) : Type 0 where

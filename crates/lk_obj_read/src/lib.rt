@@ -15,7 +15,6 @@
 //! is tied to no cause.
 #![tactic(auto)]
 
-mod failures;
 mod file_parts;
 mod local_symbols;
 mod object_checks;
@@ -29,7 +28,7 @@ mod summaries;
 mod summary_copies;
 mod symbol_places;
 
-pub use failures::ReadFailure;
+pub use lk_summary::ReadFailure;
 pub use object_checks::object_fault;
 pub use object_reading::{object_of, read_object, summarize};
 pub use objects::Object;

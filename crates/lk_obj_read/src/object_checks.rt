@@ -10,9 +10,9 @@ ghost use Rattle.lk_model.specs.Kinds.{kind_checks};
 ghost use Rattle.lk_model.specs.ObjectChecks.{object_checks, object_fault};
 ghost use Rattle.lk_obj_parts.specs.ElfViews.{elf_from};
 ghost use Rattle.lk_obj_read.specs.ObjectParts.{reference_half, table_half};
-ghost use Rattle.lk_obj_read.specs.ReadObjects.{ArePartsOf, ReadGives};
+ghost use Rattle.lk_obj_read.specs.ReadObjects.{ArePartsOf};
+ghost use Rattle.lk_summary.specs.Readings.{ReadGives};
 
-use crate::failures::ReadFailure;
 use crate::file_parts::FileParts;
 use lk_elf::{Ehdr, Shdr, Sym};
 use lk_obj_parts::{
@@ -20,7 +20,7 @@ use lk_obj_parts::{
     symbol_table_fault, symbols_fault, table_fault,
 };
 use lk_report::{InputFault, NoMemory};
-use lk_summary::kind_of;
+use lk_summary::{ReadFailure, kind_of};
 use std::alloc::Global;
 
 /// The first fault of the tables of sections and symbols.
@@ -118,7 +118,7 @@ fn checked_parts(alloc: Global, bytes: &[u8], header: Ehdr) -> Result<FileParts,
 }
 
 /// The parts of a file that can be linked as an object, or its first fault.
-#[tactic(auto, using(crate::proofs::ObjectFaults::kind_reported, crate::proofs::ObjectFaults::no_header, crate::proofs::ObjectFaults::checks_reported))]
+#[tactic(auto, using(crate::proofs::ObjectFaults::kind_reported, lk_summary::proofs::KindsKnown::no_header, crate::proofs::ObjectFaults::checks_reported))]
 pub(crate) fn sound_parts(alloc: Global, bytes: &[u8]) -> Result<FileParts, ReadFailure>
     requires few_entries { length bytes.now ≤ 24 * 2 ^ 32 }
     ensures { ReadGives (object_fault bytes.now) (ArePartsOf bytes.now) result }

@@ -6,9 +6,8 @@ ghost use Rattle.lk_elf.specs.Records.{ehdr_at};
 ghost use Rattle.lk_model.specs.Elf.{elf_of};
 ghost use Rattle.lk_model.specs.ObjectChecks.{object_fault};
 ghost use Rattle.lk_model.specs.Objects.{summary_in};
-ghost use Rattle.lk_obj_read.specs.ReadObjects.{ReadGives};
+ghost use Rattle.lk_summary.specs.Readings.{ReadGives};
 
-use crate::failures::ReadFailure;
 use crate::local_symbols::place_of_symbols;
 use crate::object_checks::sound_parts;
 use crate::objects::Object;
@@ -18,6 +17,7 @@ use lk_elf::{Ehdr, Shdr};
 use lk_model::summaries::InputSummary;
 use lk_obj_parts::read_sections;
 use lk_report::{Bytes, NoMemory};
+use lk_summary::ReadFailure;
 use std::alloc::Global;
 
 /// The object of a file that has no fault, with its sections and its summary.

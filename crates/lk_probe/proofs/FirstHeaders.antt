@@ -5,7 +5,8 @@ use Rattle.lk_report.specs.declared.faults.InputFault.{InputFault}
 use Rattle.lk_model.specs.Kinds.{kind_of}
 use Rattle.lk_model.specs.ObjectChecks.{object_fault}
 use Rattle.lk_model.specs.declared.summaries.Kind.{Kind}
-use Rattle.lk_obj_read.proofs.ObjectFaults.{kind_reported, no_header}
+use Rattle.lk_summary.proofs.KindsKnown.{no_header}
+use Rattle.lk_obj_read.proofs.ObjectFaults.{kind_reported}
 
 some_none : (f : InputFault) → Some f ≡ None → ⊥
 some_none f e = subst (λ t. t) (ap (λ (o : Option InputFault). elim o [ Some x ↦ Unit {0} | None ↦ ⊥ ]) e) tt

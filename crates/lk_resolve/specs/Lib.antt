@@ -9,3 +9,4 @@ pub mod MadeRows
 pub mod RowFaults
 pub mod Settling
 pub mod Given
+pub mod SettleStatuses

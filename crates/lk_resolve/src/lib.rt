@@ -25,6 +25,7 @@ mod searches;
 mod section_places;
 mod section_sets;
 mod settle_faults;
+mod settle_statuses;
 mod settling;
 mod state;
 mod turns;

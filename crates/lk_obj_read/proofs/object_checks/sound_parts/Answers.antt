@@ -1,5 +1,6 @@
 use Rattle.std.proofs.Common.{subst, sym, ◌∙◌}
-use Rattle.lk_obj_read.specs.ReadObjects.{ArePartsOf, ReadGives}
+use Rattle.lk_obj_read.specs.ReadObjects.{ArePartsOf}
+use Rattle.lk_summary.specs.Readings.{ReadGives}
 use Rattle.lk_obj_read.proofs.ObjectFaults.{checks_reported}
 use Rattle.lk_obj_read.proofs.object_checks.sound_parts.Goals as goal
 
