@@ -1,4 +1,4 @@
--- What a look-up and a read of one path make of what files tell, by the map alone.
+-- What a look-up and a read of one path make of what files report, by the map alone.
 use Rattle.std.proofs.Common.{◌≡◌, ◌⊎◌, refl, sym, ap, ◌∙◌, subst, inl, inr, ℕ, List, [], ◌∷◌, ◌++◌, append_assoc, Option, Some, None}
 use Rattle.std.proofs.lemmas.List.{append-nil}
 use Rattle.std.specs.Prelude.{IfSome, option_map}

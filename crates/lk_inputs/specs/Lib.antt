@@ -8,4 +8,6 @@ pub mod Asked
 pub mod Adding
 pub mod Refusals
 pub mod Resolves
+pub mod FileNumbers
+pub mod InputsReading
 pub mod AnswerLaws

@@ -47,8 +47,8 @@ fn add_item(
     Ok(count)
 }
 
-/// Adds inputs to a resolver to which none was added: after it the resolver holds the state of exactly the
-/// inputs that are to be added, in adding order.
+/// Adds inputs to a resolver to which none was added: it then has the state of exactly the inputs that the link
+/// adds, in adding order.
 ///
 /// # Errors
 /// Out of memory, which also answers more inputs than have numbers of 32 bits.

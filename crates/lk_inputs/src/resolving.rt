@@ -1,4 +1,4 @@
-//! What the inputs of a link decide.
+//! The resolution of the inputs of a link.
 
 ghost use Rattle.std.specs.Prelude.{◌≡◌, ℕ, List, [], length, map, Some, IfOk};
 ghost use Rattle.lk_model.specs.Views.{Input};
@@ -27,7 +27,7 @@ fn paths_of(alloc: Global, files: &[InputFile]) -> Result<NameList, NoMemory>
     Ok(paths)
 }
 
-/// A resolver that holds the state of the inputs that are to be added.
+/// A resolver to which the inputs that a link adds were added.
 fn resolver_of(
     alloc: Global,
     entry: &Name,
@@ -44,7 +44,7 @@ fn resolver_of(
     Ok(resolver)
 }
 
-/// What the inputs of a link decide: those that are added, names and their definitions, kept sections.
+/// The resolution of the inputs of a link: those that are added, names and their definitions, kept sections.
 ///
 /// # Errors
 /// More names than 2^20; else the faults of the names; out of memory.

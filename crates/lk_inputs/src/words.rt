@@ -1,6 +1,6 @@
 //! The words of a link, as far as its resolution.
 
-ghost use Rattle.std.specs.Prelude.{◌≡◌, IfOk, IsSome, Some};
+ghost use Rattle.std.specs.Prelude.{◌≡◌, ◌<◌, ◌^◌, length, IfOk, IsSome, OnOk, Some};
 ghost use Rattle.lk_report.specs.FileMap.{FileMap};
 ghost use Rattle.lk_inputs.specs.LookUps.{inputs_limit};
 ghost use Rattle.lk_inputs.specs.Resolves.{CommandGives, IsCommand, ResolveGives, WordsFirst, settle_status};
@@ -8,13 +8,16 @@ ghost use Rattle.lk_inputs.specs.FileAnswers.{StatusCounts, known_map, known_rea
 
 use crate::inputs::read_command;
 use crate::resolving::resolve_inputs;
-use lk_command::{Command, CommandFault, parse_words};
+use lk_command::{Command, parse_words};
 use lk_outside::Files;
 use lk_report::{NameList, Status};
 use lk_resolve::{Resolution, SettleFault};
 use std::alloc::Global;
 
-/// What is answered where the inputs decide no link.
+/// So many words and more are answered as out of memory: an image has no room for their numbers.
+const MOST_WORDS: usize = 0x4000_0000;
+
+/// What a link answers where its inputs have no resolution.
 fn status_of(fault: SettleFault) -> Status
     ensures { result ≡ settle_status fault }
 {
@@ -25,7 +28,7 @@ fn status_of(fault: SettleFault) -> Status
     }
 }
 
-/// What the inputs of a command decide, or why they decide nothing.
+/// The resolution of the inputs of a command.
 ///
 /// # Errors
 /// Those of `read_command`; then more names than 2^20, else the faults of the names.
@@ -55,21 +58,19 @@ pub fn resolve_command<F: Files>(
 /// The command that words are.
 ///
 /// # Errors
-/// The first faulty word; out of memory, which also answers more words than have numbers of 32 bits.
+/// The first faulty word; out of memory, which also answers 2^30 words and more.
 pub fn command_of(alloc: Global, words: &NameList) -> Result<Command, Status>
-    ensures { IsCommand words.now result }
+    ensures command { IsCommand words.now result }
+    ensures few { OnOk result (length words.now < 2 ^ 30) }
 {
-    if words.as_slice().len() >= u32::MAX as usize {
+    if words.as_slice().len() >= MOST_WORDS {
         return Err(Status::NoMemory);
     }
-    match parse_words(alloc, words) {
-        Ok(command) => Ok(command),
-        Err(CommandFault::Usage(fault)) => Err(Status::Usage(fault)),
-        Err(CommandFault::NoMemory) => Err(Status::NoMemory),
-    }
+    let command = parse_words(alloc, words)?;
+    Ok(command)
 }
 
-/// What the inputs of the command that words are decide, or why they decide nothing.
+/// The resolution of the inputs of the command that words are.
 ///
 /// # Errors
 /// The first faulty word, before anything is asked of the files; else those of `resolve_command`.
