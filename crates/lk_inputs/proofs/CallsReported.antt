@@ -3,7 +3,6 @@ use Rattle.std.proofs.Common.{◌≡◌, ◌⊎◌, refl, sym, ap, ◌∙◌, su
 use Rattle.std.proofs.lemmas.List.{append-nil}
 use Rattle.std.specs.Prelude.{IfSome, option_map}
 use Rattle.lk_report.specs.FileMap.{FileMap, FileRow}
-use Rattle.lk_report.specs.declared.stamps.Stamp.{Stamp}
 use Rattle.lk_outside.specs.FilesState.{FilesState, Known, StatGives, ReadGives, failure_noted, read_noted, stat_noted}
 use Rattle.lk_outside.specs.declared.files.StatAnswer.{StatAnswer}
 use Rattle.lk_outside.specs.declared.files.StatAnswer.TheVariants as stat

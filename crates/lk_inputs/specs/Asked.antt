@@ -135,7 +135,7 @@ OneMisses old (Ok None) new = Rose old.misses new.misses
 OneMisses old (Ok (Some x)) new = new.misses ≡ old.misses
 OneMisses old (Err u) new = new.misses ≡ old.misses
 
--- some may not be there
+-- files that are not there may have been counted
 abbrev pub MissedMaybe : FilesState → FilesState → Type 0
 MissedMaybe old new = (new.misses ≡ old.misses) ⊎ Rose old.misses new.misses
 

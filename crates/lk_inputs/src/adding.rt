@@ -23,7 +23,7 @@ fn lib_length(lib: u32, files: &[InputFile]) -> usize
     files.iter().take_while(|file| file.name.lib == lib).count()
 }
 
-/// Adds the first item of inputs, which are numbered from `first`; how many inputs it has.
+/// Adds the first item of inputs, which are numbered from `first`, and returns how many inputs it has.
 fn add_item(
     resolver: &mut Resolver,
     first: u32,

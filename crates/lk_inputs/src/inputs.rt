@@ -1,4 +1,4 @@
-//! The inputs of a command: they are looked up, read, and read as objects.
+//! The inputs of a command: they are looked up, read and summarized.
 
 ghost use Rattle.std.specs.Prelude.{◌≡◌, ◌≤◌, ◌^◌, length, map, All, Some, IfOk};
 ghost use Rattle.lk_report.specs.FileMap.{FileMap};
@@ -21,14 +21,17 @@ use lk_outside::Files;
 use lk_report::{NoMemory, Status, Waiting};
 use std::alloc::Global;
 
-/// The inputs of a command, by number: their files, and what a link keeps of each.
+/// The inputs of a command, by number: their files, and the summary of each.
 #[derive(Drop)]
 pub struct Inputs {
     pub files: InputFileList,
     pub summaries: SummaryList,
 }
 
-/// Why inputs wait: one of them is a shared object.
+/// Whether no input is a shared object, which links do not read yet.
+///
+/// # Errors
+/// `NotYet` with the path of the first shared object; out of memory.
 fn shared_wait(alloc: Global, files: &[InputFile]) -> Result<(), Status>
     ensures { WaitGives files.now result }
 {
@@ -39,7 +42,10 @@ fn shared_wait(alloc: Global, files: &[InputFile]) -> Result<(), Status>
     }
 }
 
-/// What a link keeps of files, none of which may be a shared object.
+/// The summaries of files, none of which may be a shared object.
+///
+/// # Errors
+/// The first shared object; else all faults of the files; out of memory.
 #[tactic(auto, using(crate::proofs::KindsReported::objects_kinds))]
 fn objects_of(alloc: Global, files: &[InputFile]) -> Result<SummaryList, Status>
     requires { All (λ file. length file.bytes ≤ 2 ^ 26) files.now }
@@ -50,7 +56,7 @@ fn objects_of(alloc: Global, files: &[InputFile]) -> Result<SummaryList, Status>
     read_summaries(alloc, files)
 }
 
-/// Inputs whose files are there, each read once.
+/// The inputs of these names, whose files are there, each read once.
 ///
 /// # Errors
 /// As soon as it is met: a read that failed, a file that went away, a limit on sizes; then a shared input; then

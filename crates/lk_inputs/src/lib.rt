@@ -5,7 +5,7 @@
 //! (`look_up_inputs`) and read once (`read_inputs`), up to the limits on their number and sizes; a shared object is
 //! reported as not built yet (`first_shared`); each object is summarized, or all faults are reported
 //! (`read_summaries`). `resolve_inputs` adds them in command order, lib groups by search (`add_inputs`), and
-//! resolves their names; `resolve_command` and `resolve_words` put these together.
+//! resolves their names.
 //!
 //! Contracts cite lk_model: `inputs_of` and `missing_of` of the command and the map of the files, where these
 //! report it, and `added_inputs` of any inputs. Callers rely on one law: the resolution of files and summaries that
@@ -36,4 +36,4 @@ pub use resolving::resolve_inputs;
 pub use shared_inputs::first_shared;
 pub use summaries::read_summaries;
 pub use word_look_ups::look_up_inputs;
-pub use words::{command_of, resolve_command, resolve_words};
+pub use words::command_of;

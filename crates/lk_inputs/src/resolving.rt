@@ -8,9 +8,11 @@ ghost use Rattle.lk_resolve.specs.Given.{found_in};
 ghost use Rattle.lk_resolve.specs.Settling.{SettleGives};
 ghost use Rattle.lk_resolve.specs.States.{state_of};
 ghost use Rattle.lk_inputs.specs.Named.{files_of, file_path};
+ghost use Rattle.lk_inputs.specs.Refusals.{AreInputs};
 
 use crate::adding::add_inputs;
 use crate::input_files::InputFile;
+use crate::inputs::Inputs;
 use lk_model::summaries::InputSummary;
 use lk_report::{List, Name, NameList, NoMemory};
 use lk_resolve::{Resolution, Resolver, SettleFault};
@@ -51,13 +53,14 @@ fn resolver_of(
 pub fn resolve_inputs(
     alloc: Global,
     entry: &Name,
-    files: &[InputFile],
-    summaries: &[InputSummary],
+    inputs: &Inputs,
 ) -> Result<Resolution, SettleFault>
-    requires { length files.now ≡ length summaries.now }
-    ensures resolution { (xs : List Input) → files.now ≡ files_of xs → summaries.now ≡ map input_summary xs → SettleGives (found_in entry.now xs) result }
-    ensures paths { IfOk result (λ resolution. resolution.paths ≡ map file_path files.now) }
+    requires { length inputs.now.files ≡ length inputs.now.summaries }
+    ensures resolution { (xs : List Input) → AreInputs xs inputs.now → SettleGives (found_in entry.now xs) result }
+    ensures paths { IfOk result (λ resolution. resolution.paths ≡ map file_path inputs.now.files) }
 {
+    let files = inputs.files.as_slice();
+    let summaries = inputs.summaries.as_slice();
     match resolver_of(alloc, entry, files, summaries) {
         Ok(resolver) => resolver.settle(),
         Err(NoMemory) => Err(SettleFault::NoMemory),

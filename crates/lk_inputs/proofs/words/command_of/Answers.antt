@@ -1,10 +1,10 @@
-use Rattle.std.proofs.Common.{◌≡◌, ap, sym, subst, ◌∙◌, ℕ, List, Err}
+use Rattle.std.proofs.Common.{ap, sym, subst, ◌∙◌, ℕ, List, Err}
 use Rattle.std.proofs.lemmas.Result.{err_from_is_err_and}
 use Rattle.lk_command.specs.CommandStatuses.{command_status}
 use Rattle.lk_command.specs.Parsing.{ParseGives}
 use Rattle.lk_command.specs.declared.command_faults.CommandFault.{CommandFault}
 use Rattle.lk_command.specs.declared.command_faults.CommandFault.TheVariants as faults
-use Rattle.lk_inputs.specs.Resolves.{IsCommand}
+use Rattle.lk_inputs.specs.CommandOfWords.{IsCommand}
 use Rattle.lk_inputs.proofs.words.command_of.Goals as goal
 
 refused : (words : List (List ℕ)) (fault : CommandFault) → ParseGives words (Err fault) → IsCommand words (Err (command_status fault))
