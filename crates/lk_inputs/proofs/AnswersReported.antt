@@ -19,7 +19,6 @@ use Rattle.lk_model.proofs.LimitsExceeded.{above, below}
 use Rattle.lk_model.proofs.Finding.{found_in-resolve}
 use Rattle.lk_resolve.specs.Given.{found_in}
 use Rattle.lk_resolve.specs.Settling.{most_names}
-use Rattle.lk_resolve.specs.declared.settle_faults.SettleFault.TheVariants as settle
 use Rattle.lk_inputs.specs.AnswerLaws.{FaultsAreTheModels, LimitIsTheModels, RefusalsAreTheModels, ResolutionGoesOn, answer_unless, scanned_answer}
 use Rattle.lk_inputs.specs.LookUps.{inputs_limit}
 use Rattle.lk_inputs.specs.Refusals.{files_refusal, inputs_refusal}

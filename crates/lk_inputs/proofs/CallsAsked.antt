@@ -1,4 +1,4 @@
--- What a look-up and a read of one path make of what files tell: the paths that were asked for, the last call that
+-- What a look-up and a read of one path make of what files report: the paths that were asked for, the last call that
 -- failed, and files that are not there.
 use Rattle.std.proofs.Common.{◌≡◌, ◌⊎◌, refl, ap, ◌∙◌, inl, inr, ℕ, List, [], ◌∷◌, ◌++◌, Option, Some, None}
 use Rattle.std.specs.Prelude.{option_map}

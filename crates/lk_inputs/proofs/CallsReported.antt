@@ -1,9 +1,8 @@
--- What a look-up and a read of one path make of what files tell, by the map alone.
+-- What a look-up and a read of one path make of what files report, by the map alone.
 use Rattle.std.proofs.Common.{◌≡◌, ◌⊎◌, refl, sym, ap, ◌∙◌, subst, inl, inr, ℕ, List, [], ◌∷◌, ◌++◌, append_assoc, Option, Some, None}
 use Rattle.std.proofs.lemmas.List.{append-nil}
 use Rattle.std.specs.Prelude.{IfSome, option_map}
 use Rattle.lk_report.specs.FileMap.{FileMap, FileRow}
-use Rattle.lk_report.specs.declared.stamps.Stamp.{Stamp}
 use Rattle.lk_outside.specs.FilesState.{FilesState, Known, StatGives, ReadGives, failure_noted, read_noted, stat_noted}
 use Rattle.lk_outside.specs.declared.files.StatAnswer.{StatAnswer}
 use Rattle.lk_outside.specs.declared.files.StatAnswer.TheVariants as stat

@@ -1,8 +1,9 @@
 -- What reading the inputs of a command asks of the files, of its look-ups and its reads.
-use Rattle.std.proofs.Common.{◌≡◌, ◌+◌, ◌<◌, ◌^◌, refl, sym, ap, ◌∙◌, subst, arith, ℕ, nat_lt, Bool, true, false, List, [], ◌∷◌, length, map, Option, Some, None, Result, Ok, Err}
+use Rattle.std.proofs.Common.{◌≡◌, ◌+◌, ◌<◌, ◌≤◌, ◌^◌, refl, sym, ap, ◌∙◌, subst, arith, ℕ, nat_lt, Bool, true, false, List, [], ◌∷◌, length, map, Option, Some, None, Result, Ok, Err}
 use Rattle.std.specs.Prelude.{Contains, IfOk, if◌then◌else◌, is_none, option_map}
 use Rattle.std.specs.Bool.{then_some}
 use Rattle.std.specs.List.{AllByRecursion, cons_option, filter_map, list_any}
+use Rattle.std.proofs.lemmas.List.{length-map}
 use Rattle.std.proofs.lemmas.List.Elements.{All-contains, All-from_recursion, All-map}
 use Rattle.lk_report.specs.FileMap.{FileMap}
 use Rattle.lk_report.specs.declared.faults.Fault.{Fault}
@@ -91,7 +92,7 @@ shared_reports_none files = by (first_shared files)
     by None = tt
     by (Some path) = tt
 
--- faults of files that are there tell of none that is missing
+-- faults of files that are there report none that is missing
 refused_faults : (files : List InputFile) (faults : List Fault) → files_refused files ≡ Some (status.LinkError faults) → list_any is_missing faults ≡ false
 refused_faults files faults e =
     by (sizes_limit 0 files) (shared_wait files) (filter_map fault_in files) (sizes_report_none 0 files) (shared_reports_none files) (none_missing_in files) e
@@ -182,3 +183,8 @@ pub inputs_placed : (places : List (List ℕ)) (names : List InputName) (result 
 inputs_placed places names (Ok inputs) all e =
     files_placed places inputs.files (subst (λ (ns : List InputName). AllByRecursion (λ (name : InputName). Contains places name.path) ns) (sym e) all)
 inputs_placed places names (Err s) all e = tt
+
+-- there are no more files than inputs that were looked up
+pub few_inputs : (names : List InputName) (result : Result Inputs Status) → length names ≤ 4096 → IfOk result (λ inputs. map file_name inputs.files ≡ names) → IfOk result (λ inputs. length inputs.files ≤ 4096)
+few_inputs names (Ok inputs) few e = omega (arith, few, length-map inputs.files file_name, ap (λ (ns : List InputName). length ns) e)
+few_inputs names (Err s) few e = tt

@@ -40,7 +40,7 @@ resolution_paths : (entry : List ℕ) (xs : List Input) (resolution : Resolution
 unfolding found_of
 resolution_paths entry xs resolution h = h.2.paths
 
--- so what settles has their paths
+-- so the resolution has their paths
 paths_resolved : (entry : List ℕ) (files : List InputFile) (summaries : List InputSummary) (resolution : ResolutionValue) → length files ≡ length summaries
     → ((xs : List Input) → files ≡ files_of xs → summaries ≡ map input_summary xs → SettleGives (found_in entry xs) (Ok resolution))
     → resolution.paths ≡ map file_path files

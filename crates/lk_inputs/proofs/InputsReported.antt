@@ -1,8 +1,8 @@
 -- The files that the map has for a command's inputs are those of lk_model's inputs, and what is reported of
 -- these files is what lk_model reports of the inputs.
-use Rattle.std.proofs.Common.{◌≡◌, ◌+◌, ◌<◌, refl, sym, ap, ◌∙◌, subst, ℕ, ◌==◌, ◌&&◌, ◌^◌, Bool, true, false, cond, List, [], ◌∷◌, length, map, Option, Some, None, Result, Ok, Err}
+use Rattle.std.proofs.Common.{◌≡◌, ◌+◌, refl, sym, ap, ◌∙◌, ℕ, ◌==◌, ◌&&◌, ◌^◌, Bool, true, false, cond, List, [], ◌∷◌, length, map, Option, Some, None, Result, Ok, Err}
 use Rattle.std.specs.Prelude.{find, is_some, unwrap_or, option_map, option_and_then, if◌then◌else◌}
-use Rattle.std.specs.List.{cons_option, filter_map, list_all}
+use Rattle.std.specs.List.{cons_option, filter_map}
 use Rattle.lk_report.specs.FileMap.{FileMap, FileRow}
 use Rattle.lk_report.specs.declared.faults.Fault.{Fault}
 use Rattle.lk_report.specs.declared.faults.Fault.TheVariants as fault
@@ -19,20 +19,18 @@ use Rattle.lk_model.specs.declared.summaries.Kind.TheVariants as kind
 use Rattle.lk_model.specs.Answers.{input_fault_of, input_faults, is_shared, is_shared_kind, limit_fault, shared_waits, size_limit}
 use Rattle.lk_model.specs.Elf as elf
 use Rattle.lk_model.specs.Elf.{elf_of}
-use Rattle.lk_model.specs.Inputs.{FoundInput, count_of, found_at, found_in, input_with, input_words, inputs_after, inputs_of, is_there, path_of, summary_by}
+use Rattle.lk_model.specs.Inputs.{FoundInput, count_of, found_at, found_in, input_with, input_words, inputs_after, inputs_of, path_of, summary_by}
 use Rattle.lk_model.specs.Inputs.{is_shared as is_shared_result}
 use Rattle.lk_model.specs.Kinds.{kind_of}
 use Rattle.lk_model.specs.ObjectChecks.{object_fault}
-use Rattle.lk_model.specs.Objects.{summary_in}
 use Rattle.lk_model.specs.Resolving.{paths_of}
-use Rattle.lk_model.specs.Views.{Elf, Input}
+use Rattle.lk_model.specs.Views.{Input}
 use Rattle.lk_model.specs.InputNames.{input_summary}
 use Rattle.lk_inputs.specs.declared.input_files.InputFile.{InputFile}
 use Rattle.lk_model.specs.declared.input_names.InputName.{InputName}
-use Rattle.lk_inputs.specs.FilesRead.{are_names_there, fault_in, file_at, files_at, first_shared, is_name_there, is_shared_file, shared_wait, size_limit_at, sizes_limit, sound_summary}
+use Rattle.lk_inputs.specs.FilesRead.{are_names_there, fault_in, file_at, files_at, is_shared_file, shared_wait, sizes_limit, sound_summary}
 use Rattle.lk_inputs.specs.FilesRead.{summary_of as summary_read}
 use Rattle.lk_inputs.specs.Named.{file_of, file_path, files_of, name_found, named_in, names_in}
-use Rattle.lk_inputs.specs.FileAnswers.{content_at}
 
 -- ---- the inputs whose files are there
 

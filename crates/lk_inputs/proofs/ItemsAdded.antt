@@ -5,7 +5,7 @@ use Rattle.std.specs.List.{prefix_len}
 use Rattle.std.proofs.lemmas.Bool.{eq-eqb, eqb-true}
 use Rattle.std.proofs.lemmas.List.{drop-drop, drop_all}
 use Rattle.lk_model.specs.declared.summaries.InputSummary.{InputSummary}
-use Rattle.lk_model.specs.Adding.{added_inputs, is_wanted_member, items_among, items_of, with_front, with_item, with_one}
+use Rattle.lk_model.specs.Adding.{added_inputs, is_wanted_member, items_among, with_front, with_item, with_one}
 use Rattle.lk_model.specs.Numbered.{Numbered, numbered_from}
 use Rattle.lk_model.specs.Queues.{listed_of}
 use Rattle.lk_model.specs.Views.{Input}

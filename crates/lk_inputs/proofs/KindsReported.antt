@@ -1,4 +1,4 @@
--- Of what kind answers are: the faults of files that are read tell of no file that is not there.
+-- Of what kind answers are: the faults of files that are read report no missing file.
 use Rattle.std.proofs.Common.{◌≡◌, refl, ap, ◌∙◌, subst, false, List, [], ◌∷◌, ℕ, Option, Some, None, Result, Ok, Err}
 use Rattle.std.specs.Prelude.{option_map}
 use Rattle.std.specs.List.{cons_option, filter_map, list_any}

@@ -1,5 +1,5 @@
--- What the passes tell one after another is what is reported of a command.
-use Rattle.std.proofs.Common.{◌≡◌, ◌<◌, ◌≤◌, refl, sym, ap, ◌∙◌, subst, arith, ℕ, nat_lt, Bool, true, false, List, [], ◌∷◌, length, map, Option, Some, None, Result, Ok, Err}
+-- What the passes over inputs report, one after another, is what is reported of a command.
+use Rattle.std.proofs.Common.{◌≡◌, ◌<◌, ◌≤◌, refl, sym, ap, ◌∙◌, subst, arith, ℕ, nat_lt, Bool, false, List, [], ◌∷◌, length, map, Option, Some, None, Result, Ok, Err}
 use Rattle.std.specs.Prelude.{find, if◌then◌else◌}
 use Rattle.std.specs.List.{filter_map}
 use Rattle.std.proofs.lemmas.Bool.{le-ltb, ltb-false}
@@ -9,19 +9,11 @@ use Rattle.lk_report.specs.declared.faults.Fault.{Fault}
 use Rattle.lk_report.specs.declared.statuses.LimitKind.TheVariants as limit
 use Rattle.lk_report.specs.declared.statuses.Status.{Status}
 use Rattle.lk_report.specs.declared.statuses.Status.TheVariants as status
-use Rattle.lk_report.specs.declared.stamps.Stamp.{Stamp}
 use Rattle.lk_model.specs.declared.commands.Command.{Command}
 use Rattle.lk_model.specs.declared.commands.Word.{Word}
-use Rattle.lk_model.specs.declared.summaries.InputSummary.{InputSummary}
 use Rattle.lk_model.specs.Answers.{fault_status, input_faults, limit_fault, shared_waits, size_limit}
-use Rattle.lk_model.specs.Finding.{Found}
 use Rattle.lk_model.specs.Inputs.{input_words, inputs_of, is_there, missing_in, missing_of, path_of, places_of}
 use Rattle.lk_model.specs.Views.{Input}
-use Rattle.lk_model.specs.InputNames.{input_summary}
-use Rattle.lk_resolve.specs.Given.{found_in}
-use Rattle.lk_resolve.specs.Settling.{SettleGives, ResolutionValue}
-use Rattle.lk_resolve.specs.declared.settle_faults.SettleFault.{SettleFault}
-use Rattle.lk_resolve.specs.declared.settle_faults.SettleFault.TheVariants as settle
 use Rattle.lk_inputs.specs.declared.input_files.InputFile.{InputFile}
 use Rattle.lk_model.specs.declared.input_names.InputName.{InputName}
 use Rattle.lk_inputs.specs.declared.input_words.InputWord.{InputWord}
@@ -29,12 +21,11 @@ use Rattle.lk_inputs.specs.declared.inputs.Inputs.{Inputs}
 use Rattle.lk_inputs.specs.declared.look_ups.FoundFile.{FoundFile}
 use Rattle.lk_inputs.specs.declared.summaries.Judged.{Judged}
 use Rattle.lk_inputs.specs.declared.word_look_ups.Sought.{Sought}
-use Rattle.lk_inputs.specs.FilesRead.{AreJudged, NamedGive, NamedRefused, are_names_there, fault_in, files_at, files_refused, shared_wait, sizes_limit}
+use Rattle.lk_inputs.specs.FilesRead.{AreJudged, NamedGive, NamedRefused, fault_in, files_at, files_refused}
 use Rattle.lk_inputs.specs.FilesRead.{summary_of as summary_read}
 use Rattle.lk_inputs.specs.LookUps.{AreSought, FirstPlaceReported, LookUpsGive, SoughtGives, inputs_limit}
 use Rattle.lk_inputs.specs.Named.{files_of, named_in, names_in, words_seen}
-use Rattle.lk_inputs.specs.Refusals.{AreInputs, CommandInputs, InputsGive, IsRefusal, files_refusal, inputs_refusal}
-use Rattle.lk_inputs.specs.Resolves.{CommandResolves, InputsResolve, IsReported, IsFirstRefusal, SettlesAs, settle_status}
+use Rattle.lk_inputs.specs.Refusals.{CommandInputs, InputsGive, IsRefusal, files_refusal, inputs_refusal}
 use Rattle.lk_inputs.proofs.InputsReported.{all_sound, faults_are, files_are, names_are_there, names_one_by_one, shared_are, sizes_are, summaries_are}
 use Rattle.lk_inputs.proofs.WordsSought.{found_named}
 
@@ -179,80 +170,3 @@ look_up_refused command there s result given is =
     by status.DeviceFault h = absurd h
     by (status.NotUpdated c) h = absurd h
     by (status.NotYet w) h = absurd h
-
--- ---- what it resolves to
-
-refused_resolves : (command : Command) (there : FileMap) (due : Option Status) (s : Status) → IsRefusal due s → InputsResolve due command there (Err s)
-refused_resolves command there due (status.ReadFault p) h = any due
-  where
-    any : (o : Option Status) → InputsResolve o command there (Err (status.ReadFault p))
-    any None = tt
-    any (Some due) = tt
-refused_resolves command there due status.NoMemory h = any due
-  where
-    any : (o : Option Status) → InputsResolve o command there (Err status.NoMemory)
-    any None = tt
-    any (Some due) = tt
-refused_resolves command there due (status.Done how) h = subst (λ o. InputsResolve o command there (Err (status.Done how))) (sym h) refl
-refused_resolves command there due (status.LinkError f) h = subst (λ o. InputsResolve o command there (Err (status.LinkError f))) (sym h) refl
-refused_resolves command there due (status.Usage u) h = subst (λ o. InputsResolve o command there (Err (status.Usage u))) (sym h) refl
-refused_resolves command there due status.DeviceFault h = subst (λ o. InputsResolve o command there (Err status.DeviceFault)) (sym h) refl
-refused_resolves command there due (status.Limit l) h = subst (λ o. InputsResolve o command there (Err (status.Limit l))) (sym h) refl
-refused_resolves command there due (status.NotUpdated c) h = subst (λ o. InputsResolve o command there (Err (status.NotUpdated c))) (sym h) refl
-refused_resolves command there due (status.NotYet w) h = subst (λ o. InputsResolve o command there (Err (status.NotYet w))) (sym h) refl
-
-first_reported : (command : Command) (there : FileMap) (due s : Status) → CommandInputs (Some due) command there (Err s) → IsFirstRefusal due (Err s)
-first_reported command there due (status.Done how) h = h
-first_reported command there due (status.LinkError f) h = h
-first_reported command there due (status.Usage u) h = h
-first_reported command there due (status.ReadFault p) h = h
-first_reported command there due status.DeviceFault h = h
-first_reported command there due status.NoMemory h = tt
-first_reported command there due (status.Limit l) h = h
-first_reported command there due (status.NotUpdated c) h = h
-first_reported command there due (status.NotYet w) h = h
-
-refused_at : (command : Command) (there : FileMap) (o : Option Status) (s : Status) → CommandInputs o command there (Err s) → CommandResolves o command there (Err s)
-refused_at command there None s h = refused_resolves command there (inputs_refusal command there) s h
-refused_at command there (Some due) s h = first_reported command there due s h
-
-pub inputs_refused : (command : Command) (there : FileMap) (s : Status) (result : Result ResolutionValue Status) → CommandInputs (inputs_limit command) command there (Err s) → result ≡ Err s → CommandResolves (inputs_limit command) command there result
-inputs_refused command there s result h is =
-    let R : Result ResolutionValue Status → Type 0 = λ r. CommandResolves (inputs_limit command) command there r in
-    subst R (sym is) (refused_at command there (inputs_limit command) s h)
-
--- what settling answers, as a status
-as_status : Result ResolutionValue SettleFault → Result ResolutionValue Status
-as_status (Ok resolution) = Ok resolution
-as_status (Err fault) = Err (settle_status fault)
-
-settles_as : (found : Found) (r : Result ResolutionValue SettleFault) → SettleGives found r → SettlesAs found (as_status r)
-unfolding as_status
-settles_as found (Ok resolution) h = h
-settles_as found (Err (settle.Faults faults)) h = h
-settles_as found (Err (settle.Limit l)) h = h
-settles_as found (Err settle.NoMemory) h = tt
-
-resolved_at : (command : Command) (there : FileMap) (o : Option Status) (inputs : Inputs) (r : Result ResolutionValue SettleFault) → CommandInputs o command there (Ok inputs)
-    → ((xs : List Input) → inputs.files ≡ files_of xs → inputs.summaries ≡ map input_summary xs → SettleGives (found_in command.options.entry xs) r)
-    → CommandResolves o command there (as_status r)
-resolved_at command there (Some due) inputs r h gives = absurd h
-resolved_at command there None inputs r h gives =
-    let P : Option Status → Type 0 = λ o. InputsResolve o command there (as_status r) in
-    subst P (sym h.0) (settles_as (found_in command.options.entry (inputs_of command there)) r (gives (inputs_of command there) h.1.files h.1.summaries))
-
-pub resolved : (command : Command) (there : FileMap) (inputs : Inputs) (r : Result ResolutionValue SettleFault) (resolution : ResolutionValue) → CommandInputs (inputs_limit command) command there (Ok inputs)
-    → ((xs : List Input) → inputs.files ≡ files_of xs → inputs.summaries ≡ map input_summary xs → SettleGives (found_in command.options.entry xs) r)
-    → r ≡ Ok resolution → CommandResolves (inputs_limit command) command there (Ok resolution)
-unfolding as_status
-resolved command there inputs r resolution h gives is =
-    let R : Result ResolutionValue Status → Type 0 = λ t. CommandResolves (inputs_limit command) command there t in
-    subst R (ap as_status is) (resolved_at command there (inputs_limit command) inputs r h gives)
-
-pub unresolved : (command : Command) (there : FileMap) (inputs : Inputs) (r : Result ResolutionValue SettleFault) (fault : SettleFault) (s : Status) → CommandInputs (inputs_limit command) command there (Ok inputs)
-    → ((xs : List Input) → inputs.files ≡ files_of xs → inputs.summaries ≡ map input_summary xs → SettleGives (found_in command.options.entry xs) r)
-    → r ≡ Err fault → s ≡ settle_status fault → CommandResolves (inputs_limit command) command there (Err s)
-unfolding as_status
-unresolved command there inputs r fault s h gives is reported =
-    let R : Result ResolutionValue Status → Type 0 = λ t. CommandResolves (inputs_limit command) command there t in
-    subst R (ap as_status is ∙ ap (λ t. Err t) (sym reported)) (resolved_at command there (inputs_limit command) inputs r h gives)

@@ -1,16 +1,14 @@
 -- What the look-ups of words amount to: an input's word that is found or missing, and one word after another.
-use Rattle.std.proofs.Common.{◌≡◌, ◌+◌, ◌<◌, refl, sym, ap, ◌∙◌, subst, ℕ, suc, Bool, true, false, cond, List, [], ◌∷◌, ◌++◌, length, drop, map, get_or, Option, Some, None, append_assoc, add-one, drop-cons}
-use Rattle.std.proofs.lemmas.List.{append-nil}
+use Rattle.std.proofs.Common.{◌≡◌, ◌+◌, ◌<◌, refl, sym, ap, ◌∙◌, ℕ, suc, List, [], ◌∷◌, ◌++◌, length, drop, get_or, Option, Some, None, append_assoc, add-one, drop-cons}
 use Rattle.std.specs.Prelude.{find, is_none, option_map, option_and_then}
 use Rattle.std.specs.Bool.{then_some}
 use Rattle.std.specs.List.{cons_option, filter_map}
 use Rattle.lk_report.specs.FileMap.{FileMap, FileRow}
-use Rattle.lk_report.specs.declared.faults.Fault.{Fault}
 use Rattle.lk_report.specs.declared.faults.Fault.TheVariants as fault
 use Rattle.lk_report.specs.declared.stamps.Stamp.{Stamp}
 use Rattle.lk_model.specs.declared.commands.Command.{Command}
 use Rattle.lk_model.specs.declared.commands.Word.{Word}
-use Rattle.lk_model.specs.Inputs.{FoundInput, found_at, found_in, is_there, missing_in, missing_path, path_of, places_of}
+use Rattle.lk_model.specs.Inputs.{FoundInput, found_at, is_there, missing_in, missing_path, path_of, places_of}
 use Rattle.lk_model.specs.declared.input_names.InputName.{InputName}
 use Rattle.lk_inputs.specs.Named.{name_found, named_in}
 use Rattle.lk_inputs.specs.FileAnswers.{stamp_at}

@@ -1,5 +1,5 @@
--- This project's own: the inputs of a link, file by file with its summary, and how one item of them is
--- added: an input outside a lib group, or a lib group.
+-- This project's own: the inputs of a link, file by file with its summary, and how one item of them is added: an
+-- input outside a lib group, or a lib group.
 use Rattle.std.specs.Prelude.{◌≡◌, ◌+◌, ◌==◌, ℕ, Bool, List, [], ◌∷◌, map, take, drop, length, take_while, Option, Some}
 use Rattle.lk_model.specs.declared.summaries.InputSummary.{InputSummary}
 use Rattle.lk_model.specs.Adding.{items_among, with_item}

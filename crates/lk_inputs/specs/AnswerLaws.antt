@@ -1,4 +1,4 @@
--- This project's own: what the refusals of these passes have to do with lk_model's answer of a static link.
+-- This project's own: the refusals of these passes are lk_model's answer of a static link.
 use Rattle.std.specs.Prelude.{◌≡◌, List, Option, Some, None, Ok, Err}
 use Rattle.lk_report.specs.FileMap.{FileMap}
 use Rattle.lk_report.specs.declared.faults.Fault.{Fault}

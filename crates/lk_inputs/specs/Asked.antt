@@ -1,4 +1,4 @@
--- This project's own: which paths are looked up and which are read, in what order, where the files tell it; which
+-- This project's own: which paths are looked up and which are read, in what order, where the files report it; which
 -- answers name which paths; whether a file that is not there was counted; and of what kind answers are.
 use Rattle.std.specs.Prelude.{◌≡◌, ◌++◌, ◌∷◌, [], ◌⊎◌, ℕ, Bool, true, false, cond, List, map, Contains, Option, Some, None, IsSome, option_map, filter_map, Result, Ok, Err}
 use Rattle.std.specs.List.{flat_map, list_any}
@@ -45,7 +45,7 @@ pub record FrontAsked (before : Paths) (all : List (List ℕ)) (after : Paths) :
   pub whole : all ≡ front ++ rest
   pub asked : after ≡ reads_with front before
 
--- all of them were asked for in turn, or for want of an answer some from the first on
+-- all of them were asked for in turn, or, where there is no answer, some from the first on
 abbrev pub AskedInTurn : {X Y : Type 0} → Paths → List (List ℕ) → Result X Y → Paths → Type 0
 AskedInTurn before all (Ok x) after = after ≡ reads_with all before
 AskedInTurn before all (Err y) after = FrontAsked before all after
@@ -99,12 +99,12 @@ LookUpsAsked before all (Err s) after = FrontAsked before all after
 
 -- ---- files that are not there
 
--- a fault that reports of a file that is not there
+-- a fault that reports a missing file
 abbrev pub is_missing : Fault → Bool
 is_missing (fault.Missing path) = true
 is_missing other = false
 
--- where faults tell of a file that went away, some reads; else all
+-- where faults report a file that went away, some reads; else all
 abbrev pub FaultsAsked : Bool → Paths → List (List ℕ) → Paths → Type 0
 FaultsAsked true before all after = FrontAsked before all after
 FaultsAsked false before all after = after ≡ reads_with all before
@@ -135,7 +135,7 @@ OneMisses old (Ok None) new = Rose old.misses new.misses
 OneMisses old (Ok (Some x)) new = new.misses ≡ old.misses
 OneMisses old (Err u) new = new.misses ≡ old.misses
 
--- some may not be there
+-- files that are not there may have been counted
 abbrev pub MissedMaybe : FilesState → FilesState → Type 0
 MissedMaybe old new = (new.misses ≡ old.misses) ⊎ Rose old.misses new.misses
 

@@ -1,4 +1,4 @@
--- This project's own: the map of the input files, where they tell it, and what single calls tell of it.
+-- This project's own: the map of the input files, where they report it, and what single calls report of it.
 use Rattle.std.specs.Prelude.{◌≡◌, ◌++◌, ◌∷◌, [], ℕ, List, Option, Some, None, option_map, IfSome, Result, Ok, Err}
 use Rattle.lk_report.specs.FileMap.{FileMap, FileRow}
 use Rattle.lk_report.specs.Spoken.{Rose}
@@ -13,7 +13,7 @@ use Rattle.lk_outside.specs.declared.files.ReadAnswer.TheVariants as read
 use Rattle.lk_inputs.specs.declared.unread.Unread.{Unread}
 use Rattle.lk_inputs.specs.declared.unread.Unread.TheVariants as unread
 
--- the map of the files, where they tell it
+-- the map of the files, where they report it
 abbrev pub known_map : FilesState → Option FileMap
 known_map state = option_map (λ (k : Known). k.map) state.known
 
@@ -37,7 +37,7 @@ ReadReported there path read.Absent = there path ≡ None
 ReadReported there path read.Failed = Unit {0}
 ReadReported there path read.NoMemory = Unit {0}
 
--- the count of faults rose, and where the files tell it the last call that failed was of this path
+-- the count of faults rose, and where the files report it the last call that failed was of this path
 abbrev pub Failed : FilesState → List ℕ → FilesState → Type 0
 Failed old path new = Rose old.faults new.faults × IfSome new.known (λ (k : Known). k.failed ≡ Some path)
 
@@ -67,7 +67,7 @@ StatusCounts old (Err (status.ReadFault path)) new = Failed old path new
 StatusCounts old (Err status.NoMemory) new = Unit {0}
 StatusCounts old (Err s) new = new.faults ≡ old.faults
 
--- the paths that were given to `read`, where the files tell them
+-- the paths that were given to `read`, where the files report them
 abbrev pub known_reads : FilesState → Option (List (List ℕ))
 known_reads state = option_map (λ (k : Known). k.reads) state.known
 

@@ -7,5 +7,7 @@ pub mod FilesRead
 pub mod Asked
 pub mod Adding
 pub mod Refusals
-pub mod Resolves
+pub mod CommandOfWords
+pub mod FileNumbers
+pub mod InputsReading
 pub mod AnswerLaws

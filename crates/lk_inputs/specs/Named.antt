@@ -1,4 +1,4 @@
--- This project's own: the words of a command's inputs and the inputs that they name, as code holds them.
+-- This project's own: the words of a command's inputs and the inputs that they name, as code has them.
 use Rattle.std.specs.Prelude.{ℕ, List, map, filter_map, Option, option_map}
 use Rattle.lk_report.specs.FileMap.{FileMap}
 use Rattle.lk_model.specs.declared.commands.Command.{Command}

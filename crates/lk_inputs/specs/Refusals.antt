@@ -41,7 +41,7 @@ abbrev pub InputsGive : Command → FileMap → Result Inputs Status → Type 0
 InputsGive command there (Ok inputs) = (inputs_refusal command there ≡ None) × AreInputs (inputs_of command there) inputs
 InputsGive command there (Err s) = IsRefusal (inputs_refusal command there) s
 
--- and of one that may have too many, which is reported first
+-- the same where it may have too many, which is reported first
 abbrev pub CommandInputs : Option Status → Command → FileMap → Result Inputs Status → Type 0
 CommandInputs None command there result = InputsGive command there result
 CommandInputs (Some due) command there (Ok inputs) = ⊥

@@ -1,4 +1,4 @@
--- This project's own: what is answered where a look-up or a read gave nothing.
+-- This project's own: the status of a look-up or a read without an answer.
 use Rattle.lk_report.specs.declared.statuses.Status.{Status}
 use Rattle.lk_report.specs.declared.statuses.Status.TheVariants as status
 use Rattle.lk_inputs.specs.declared.unread.Unread.{Unread}

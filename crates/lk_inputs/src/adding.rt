@@ -23,7 +23,7 @@ fn lib_length(lib: u32, files: &[InputFile]) -> usize
     files.iter().take_while(|file| file.name.lib == lib).count()
 }
 
-/// Adds the first item of inputs, which are numbered from `first`; how many inputs it has.
+/// Adds the first item of inputs, which are numbered from `first`, and returns how many inputs it has.
 fn add_item(
     resolver: &mut Resolver,
     first: u32,
@@ -47,8 +47,8 @@ fn add_item(
     Ok(count)
 }
 
-/// Adds inputs to a resolver to which none was added: after it the resolver holds the state of exactly the
-/// inputs that are to be added, in adding order.
+/// Adds inputs to a resolver to which none was added: it then has the state of exactly the inputs that the link
+/// adds, in adding order.
 ///
 /// # Errors
 /// Out of memory, which also answers more inputs than have numbers of 32 bits.

@@ -16,7 +16,7 @@ pub struct InputWord<'c> {
     pub word: &'c Word,
 }
 
-/// The number of the lib group after this one; a number that has no room in 32 bits is answered as want of
+/// The number of the lib group after this one; a number that has no room in 32 bits is answered as out of
 /// memory.
 fn next_lib(lib: u32) -> Result<u32, NoMemory>
     ensures { IfOk result (λ next. next ≡ lib + 1) }

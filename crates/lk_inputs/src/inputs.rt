@@ -1,14 +1,12 @@
-//! The inputs of a command: they are looked up, read, and read as objects.
+//! The inputs of a command: they are looked up, read and summarized.
 
-ghost use Rattle.std.specs.Prelude.{◌≡◌, ◌≤◌, ◌^◌, false, length, map, All, Contains, IsSome, Some, IfOk};
-ghost use Rattle.std.specs.List.{AllByRecursion};
+ghost use Rattle.std.specs.Prelude.{◌≡◌, ◌≤◌, ◌^◌, length, map, All, Some, IfOk};
 ghost use Rattle.lk_report.specs.FileMap.{FileMap};
-ghost use Rattle.lk_model.specs.Inputs.{input_words};
-ghost use Rattle.lk_inputs.specs.Asked.{AreSound, CommandAsked, FilesAsked, IsOfFiles, IsOfObjects, IsOfReading, LimitFirst, StatusLast, StatusMisses, StatusNamed, all_places, file_name, has_library, name_path, known_stats};
+ghost use Rattle.lk_inputs.specs.Asked.{AreSound, FilesAsked, IsOfFiles, IsOfObjects, StatusLast, StatusMisses, StatusNamed, file_name, name_path, known_stats};
+ghost use Rattle.lk_inputs.specs.FileNumbers.{FileFits};
 ghost use Rattle.lk_inputs.specs.FilesRead.{NamedGive, ObjectsGive, WaitGives};
+ghost use Rattle.lk_inputs.specs.InputsReading.{InputsRead};
 ghost use Rattle.lk_inputs.specs.Named.{file_path};
-ghost use Rattle.lk_inputs.specs.LookUps.{inputs_limit};
-ghost use Rattle.lk_inputs.specs.Refusals.{CommandInputs};
 ghost use Rattle.lk_inputs.specs.FileAnswers.{StatusCounts, known_map, known_reads, reads_with};
 
 use crate::input_files::{InputFile, InputFileList};
@@ -23,14 +21,17 @@ use lk_outside::Files;
 use lk_report::{NoMemory, Status, Waiting};
 use std::alloc::Global;
 
-/// The inputs of a command, by number: their files, and what a link keeps of each.
+/// The inputs of a command, by number: their files, and the summary of each.
 #[derive(Drop)]
 pub struct Inputs {
     pub files: InputFileList,
     pub summaries: SummaryList,
 }
 
-/// Why inputs wait: one of them is a shared object.
+/// Whether no input is a shared object, which links do not read yet.
+///
+/// # Errors
+/// `NotYet` with the path of the first shared object; out of memory.
 fn shared_wait(alloc: Global, files: &[InputFile]) -> Result<(), Status>
     ensures { WaitGives files.now result }
 {
@@ -41,7 +42,10 @@ fn shared_wait(alloc: Global, files: &[InputFile]) -> Result<(), Status>
     }
 }
 
-/// What a link keeps of files, none of which may be a shared object.
+/// The summaries of files, none of which may be a shared object.
+///
+/// # Errors
+/// The first shared object; else all faults of the files; out of memory.
 #[tactic(auto, using(crate::proofs::KindsReported::objects_kinds))]
 fn objects_of(alloc: Global, files: &[InputFile]) -> Result<SummaryList, Status>
     requires { All (λ file. length file.bytes ≤ 2 ^ 26) files.now }
@@ -52,7 +56,7 @@ fn objects_of(alloc: Global, files: &[InputFile]) -> Result<SummaryList, Status>
     read_summaries(alloc, files)
 }
 
-/// Inputs whose files are there, each read once.
+/// The inputs of these names, whose files are there, each read once.
 ///
 /// # Errors
 /// As soon as it is met: a read that failed, a file that went away, a limit on sizes; then a shared input; then
@@ -76,6 +80,7 @@ fn read_named<F: Files>(
     ensures kinds { IsOfFiles result }
     ensures sound { IfOk result AreSound }
     ensures names { IfOk result (λ inputs. map file_name inputs.files ≡ names) }
+    ensures fit { IfOk result (λ inputs. All FileFits inputs.files) }
 {
     let inputs = read_inputs(alloc, names, files)?;
     let summaries = objects_of(alloc, inputs.as_slice())?;
@@ -96,22 +101,7 @@ pub fn read_command<F: Files>(
     command: &Command,
     files: &mut F,
 ) -> Result<Inputs, Status>
-    ensures kept { known_map (F.state files.new) ≡ known_map (F.state files.old) }
-    ensures reads { IfOk result (λ inputs. known_reads (F.state files.new) ≡ reads_with (map file_path inputs.files) (known_reads (F.state files.old))) }
-    ensures reported { (there : FileMap) → known_map (F.state files.old) ≡ Some there → CommandInputs (inputs_limit command.now) command.now there result }
-    ensures faults { StatusCounts (F.state files.old) result (F.state files.new) }
-    ensures limit { IsSome (inputs_limit command.now) → F.state files.new ≡ F.state files.old }
-    ensures alike { IfOk result (λ inputs. length inputs.files ≡ length inputs.summaries) }
-    ensures short { IfOk result (λ inputs. All (λ file. length file.bytes ≤ 2 ^ 26) inputs.files) }
-    ensures asked { (there : FileMap) → known_map (F.state files.old) ≡ Some there → CommandAsked command.now there (F.state files.old) result (F.state files.new) }
-    ensures last { StatusLast (F.state files.old) result (F.state files.new) }
-    ensures misses { has_library (input_words command.now) ≡ false → StatusMisses (F.state files.old) result (F.state files.new) }
-    ensures named { StatusNamed (all_places command.now) result }
-    ensures kinds { IsOfReading command.now result }
-    ensures first { LimitFirst (inputs_limit command.now) result }
-    ensures sound { IfOk result AreSound }
-    ensures placed { IfOk result (λ inputs. AllByRecursion (λ file. Contains (all_places command.now) file.name.path) inputs.files) }
-    ensures few { IfOk result (λ inputs. length inputs.files ≤ 4096) }
+    ensures { InputsRead command.now (F.state files.old) result (F.state files.new) }
 {
     let names = look_up_inputs(alloc, command, files)?;
     read_named(alloc, names, files)

@@ -1,17 +1,15 @@
-//! From the words of a link to what its inputs decide: the passes over all inputs that come before any
+//! From the words of a link to the resolution of its inputs: the passes over all inputs that come before any
 //! relocation is looked at.
 //!
-//! Words and files come in; out comes a `Resolution` of the added inputs, or the status that the link has in
-//! its place. The passes, in their order: the words become a command (`command_of`, by lk_command); each input
-//! is looked up (`look_up_inputs`) and read once (`read_inputs`), up to the limits on their number and sizes;
-//! shared objects are reported as not built yet (`first_shared`); what a link keeps of each object is read, or all
-//! faults are reported (`read_summaries`); the inputs are added in command order, lib groups by search
-//! (`add_inputs`), and resolved (`resolve_inputs`). `read_command`, `resolve_command` and `resolve_words` put
-//! these together.
+//! The words become a command (`command_of`, by lk_command). `read_command` reads its inputs: each is looked up
+//! (`look_up_inputs`) and read once (`read_inputs`), up to the limits on their number and sizes; a shared object is
+//! reported as not built yet (`first_shared`); each object is summarized, or all faults are reported
+//! (`read_summaries`). `resolve_inputs` adds them in command order, lib groups by search (`add_inputs`), and
+//! resolves their names.
 //!
 //! Contracts cite lk_model: `inputs_of` and `missing_of` of the command and the map of the files, where these
-//! tell it, and `added_inputs` of any inputs. Callers rely on one law: files and summaries that are those of
-//! some inputs settle to `found_of` exactly the added ones of these.
+//! report it, and `added_inputs` of any inputs. Callers rely on one law: the resolution of files and summaries that
+//! are those of some inputs is `found_of` exactly the added ones of these.
 #![tactic(auto)]
 
 mod adding;
@@ -38,4 +36,4 @@ pub use resolving::resolve_inputs;
 pub use shared_inputs::first_shared;
 pub use summaries::read_summaries;
 pub use word_look_ups::look_up_inputs;
-pub use words::{command_of, resolve_command, resolve_words};
+pub use words::command_of;

@@ -41,7 +41,7 @@ fn place_at(alloc: Global, path: &Name, stamp: Option<Stamp>) -> Result<FoundFil
     Ok(FoundFile { path, stamp })
 }
 
-/// What a call of this path that failed is reported as.
+/// The answer where a call of this path failed.
 pub fn failed_at(alloc: Global, path: &Name) -> Unread
     ensures { IsFailed path.now result }
 {

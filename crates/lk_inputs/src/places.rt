@@ -71,7 +71,7 @@ pub fn places_of(alloc: Global, command: &Command, word: &Word) -> Result<NameLi
     Ok(places)
 }
 
-/// How a fault names a word whose file is not there: by its path, a library as it was asked for.
+/// The path by which a fault names a word without a file: its text, or `-lNAME` for a library.
 ///
 /// # Errors
 /// Out of memory alone.

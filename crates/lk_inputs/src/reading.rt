@@ -1,32 +1,35 @@
 //! Reading the files of inputs, each once and whole, up to the limits on their sizes.
 
-ghost use Rattle.std.specs.Prelude.{◌≡◌, ◌≤◌, ◌^◌, ◌+◌, ◌∷◌, [], length, map, All, Some, IfErr, IfOk, OnOk};
+ghost use Rattle.std.specs.Prelude.{◌≡◌, ◌<◌, ◌≤◌, ◌^◌, ◌+◌, ◌∷◌, [], length, map, All, Some, IfErr, IfOk, OnOk};
 ghost use Rattle.lk_report.specs.FileMap.{FileMap};
 ghost use Rattle.lk_inputs.specs.Asked.{AskedInTurn, IsOfReads, ReadAsked, ReadLast, ReadMisses, StatusLast, StatusMisses, StatusNamed, file_name, name_path, known_stats};
 ghost use Rattle.lk_inputs.specs.Named.{file_path};
 ghost use Rattle.lk_inputs.specs.FilesRead.{ContentReported, IsGone, ReadsGive, SizeGives};
+ghost use Rattle.lk_inputs.specs.FileNumbers.{FileFits, NameFits};
 ghost use Rattle.lk_inputs.specs.FileAnswers.{ReadCounts, ReadNoted, ReadReported, StatusCounts, known_map, known_reads, reads_with};
 
 use crate::input_files::{InputFile, InputFileList};
 use crate::look_ups::failed_at;
 use crate::unread::status_of;
-use lk_model::input_names::InputNameList;
+use lk_model::input_names::{InputName, InputNameList};
 use lk_model::limits::{MOST_INPUT_BYTES, MOST_TOTAL_BYTES};
 use lk_outside::{Files, ReadAnswer};
 use lk_report::{Bytes, Fault, FaultList, LimitFault, LimitKind, List, Name, NoMemory, Status};
 use std::alloc::Global;
 
-/// The bytes that are read with one more file of this length.
+/// How many bytes of files are read with this one.
 ///
 /// # Errors
 /// The limit that is exceeded.
-fn total_with(before: u64, length: u64) -> Result<u64, LimitFault>
+fn total_with(before: u64, file: &[u8]) -> Result<u64, LimitFault>
     requires { before ≤ 2 ^ 30 }
-    ensures total { SizeGives before length result }
+    ensures total { SizeGives before (length file.now) result }
     ensures short { IfOk result (λ total. total ≤ 2 ^ 30) }
-    ensures each { OnOk result (length ≤ 2 ^ 26) }
+    ensures each { OnOk result (length file.now ≤ 2 ^ 26) }
+    ensures bytes { All (λ b. b < 256) file.now }
     ensures sizes { IfErr result (λ l. l.which ≡ LimitKind.Inputs → ⊥) }
 {
+    let length = file.len() as u64;
     if length > MOST_INPUT_BYTES {
         return Err(LimitFault {
             which: LimitKind::InputSize,
@@ -53,7 +56,7 @@ fn gone(alloc: Global, path: &Name) -> Result<FaultList, NoMemory>
     Ok(faults)
 }
 
-/// What is reported of a file that went away.
+/// The status where a file went away.
 fn gone_status(alloc: Global, path: &Name) -> Status
     ensures { IsGone path.now result }
 {
@@ -102,6 +105,14 @@ fn read_file<F: Files>(alloc: Global, path: &Name, files: &mut F) -> Result<Byte
     }
 }
 
+/// An input with the content of its file.
+fn input_of(name: InputName, bytes: Bytes) -> InputFile
+    ensures is { result ≡ record { name = name; bytes = bytes } }
+    ensures fits { NameFits name }
+{
+    InputFile { name, bytes }
+}
+
 /// Reads the files of inputs in command order, each once.
 ///
 /// # Errors
@@ -125,16 +136,17 @@ pub fn read_inputs<F: Files>(
     ensures kinds { IsOfReads result }
     ensures names { IfOk result (λ inputs. map file_name inputs ≡ names) }
     ensures short { IfOk result (λ inputs. All (λ input. length input.bytes ≤ 2 ^ 26) inputs) }
+    ensures fit { IfOk result (λ inputs. All FileFits inputs) }
 {
     let mut inputs = List::new(alloc);
     let mut total = 0;
     for name in names.into_vec() {
         let bytes = read_file(alloc, &name.path, files)?;
-        total = match total_with(total, bytes.as_slice().len() as u64) {
+        total = match total_with(total, bytes.as_slice()) {
             Ok(total) => total,
             Err(limit) => return Err(Status::Limit(limit)),
         };
-        if inputs.push(InputFile { name, bytes }).is_err() {
+        if inputs.push(input_of(name, bytes)).is_err() {
             return Err(Status::NoMemory);
         }
     }

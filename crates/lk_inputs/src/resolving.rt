@@ -1,4 +1,4 @@
-//! What the inputs of a link decide.
+//! The resolution of the inputs of a link.
 
 ghost use Rattle.std.specs.Prelude.{◌≡◌, ℕ, List, [], length, map, Some, IfOk};
 ghost use Rattle.lk_model.specs.Views.{Input};
@@ -8,9 +8,11 @@ ghost use Rattle.lk_resolve.specs.Given.{found_in};
 ghost use Rattle.lk_resolve.specs.Settling.{SettleGives};
 ghost use Rattle.lk_resolve.specs.States.{state_of};
 ghost use Rattle.lk_inputs.specs.Named.{files_of, file_path};
+ghost use Rattle.lk_inputs.specs.Refusals.{AreInputs};
 
 use crate::adding::add_inputs;
 use crate::input_files::InputFile;
+use crate::inputs::Inputs;
 use lk_model::summaries::InputSummary;
 use lk_report::{List, Name, NameList, NoMemory};
 use lk_resolve::{Resolution, Resolver, SettleFault};
@@ -27,7 +29,7 @@ fn paths_of(alloc: Global, files: &[InputFile]) -> Result<NameList, NoMemory>
     Ok(paths)
 }
 
-/// A resolver that holds the state of the inputs that are to be added.
+/// A resolver to which the inputs that a link adds were added.
 fn resolver_of(
     alloc: Global,
     entry: &Name,
@@ -44,20 +46,21 @@ fn resolver_of(
     Ok(resolver)
 }
 
-/// What the inputs of a link decide: those that are added, names and their definitions, kept sections.
+/// The resolution of the inputs of a link: those that are added, names and their definitions, kept sections.
 ///
 /// # Errors
 /// More names than 2^20; else the faults of the names; out of memory.
 pub fn resolve_inputs(
     alloc: Global,
     entry: &Name,
-    files: &[InputFile],
-    summaries: &[InputSummary],
+    inputs: &Inputs,
 ) -> Result<Resolution, SettleFault>
-    requires { length files.now ≡ length summaries.now }
-    ensures resolution { (xs : List Input) → files.now ≡ files_of xs → summaries.now ≡ map input_summary xs → SettleGives (found_in entry.now xs) result }
-    ensures paths { IfOk result (λ resolution. resolution.paths ≡ map file_path files.now) }
+    requires { length inputs.now.files ≡ length inputs.now.summaries }
+    ensures resolution { (xs : List Input) → AreInputs xs inputs.now → SettleGives (found_in entry.now xs) result }
+    ensures paths { IfOk result (λ resolution. resolution.paths ≡ map file_path inputs.now.files) }
 {
+    let files = inputs.files.as_slice();
+    let summaries = inputs.summaries.as_slice();
     match resolver_of(alloc, entry, files, summaries) {
         Ok(resolver) => resolver.settle(),
         Err(NoMemory) => Err(SettleFault::NoMemory),

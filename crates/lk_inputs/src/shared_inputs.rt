@@ -12,7 +12,7 @@ use lk_report::{Name, NoMemory};
 use lk_summary::kind_of;
 use std::alloc::Global;
 
-/// Whether bytes are those of a shared object, by the first of them.
+/// Whether bytes begin as a shared object does (gABI "ELF Header": `e_type` is ET_DYN).
 fn is_shared(bytes: &[u8]) -> bool
     ensures { result ≡ is_shared_kind (kind_of bytes.now) }
 {

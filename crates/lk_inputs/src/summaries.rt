@@ -1,4 +1,4 @@
-//! What a link keeps of the files of its inputs, or all their faults.
+//! The summaries of the files of a link's inputs, or all their faults.
 
 ghost use Rattle.std.specs.Prelude.{◌≡◌, ◌≤◌, ◌^◌, nat_lt, length, All, IfOk};
 ghost use Rattle.lk_inputs.specs.FilesRead.{AreJudged, SummariesGive};
@@ -9,12 +9,12 @@ use lk_obj_read::{ReadFailure, summarize};
 use lk_report::{Fault, FaultList, InputFault, List, NoMemory, Status};
 use std::alloc::Global;
 
-/// What files that are read as objects are.
+/// Files read as objects: their summaries and their faults.
 #[derive(Drop)]
 pub struct Judged {
-    /// What a link keeps of those that have no fault.
+    /// The summaries of those without a fault.
     pub summaries: SummaryList,
-    /// The faults of the others.
+    /// The first fault of each of the others, with its path.
     pub faults: FaultList,
 }
 
@@ -50,7 +50,7 @@ fn has_faults(faults: &FaultList) -> bool
     faults.as_slice().len() > 0
 }
 
-/// What a link keeps of files that are read as objects, in their order.
+/// The summaries of files that are read as objects, in their order.
 ///
 /// # Errors
 /// The faults of all files that have one, in order; out of memory.

@@ -1,4 +1,4 @@
-//! Why the outside gave no answer.
+//! Why a look-up or a read has no answer.
 
 ghost use Rattle.std.specs.Prelude.{◌≡◌};
 ghost use Rattle.lk_inputs.specs.Unread.{unread_status};
@@ -6,7 +6,7 @@ ghost use Rattle.lk_inputs.specs.declared.unread.Unread.TheVariants as unread;
 
 use lk_report::{Name, NoMemory, Status};
 
-/// Why a look-up or a read gave nothing.
+/// Why a look-up or a read has no answer.
 #[derive(Drop)]
 pub enum Unread {
     /// The call of this path failed, and the files counted a fault.
@@ -23,7 +23,7 @@ impl From<NoMemory> for Unread {
     }
 }
 
-/// What is answered where the outside gave nothing.
+/// The status of a look-up or a read without an answer.
 pub fn status_of(unread: Unread) -> Status
     ensures { result ≡ unread_status unread }
 {

@@ -1,4 +1,4 @@
-//! Looking the words of inputs up: which inputs are there, and which are not.
+//! The look-ups of the words of inputs: which files are there, and which are missing.
 
 ghost use Rattle.std.specs.Prelude.{◌≡◌, ◌≤◌, false, nat_lt, length, Contains, None, Some, IsSome, IfOk, IfSome, OnOk};
 ghost use Rattle.std.specs.List.{AllByRecursion};
@@ -20,7 +20,7 @@ use lk_outside::Files;
 use lk_report::{Fault, FaultList, LimitFault, LimitKind, List, NoMemory, Status};
 use std::alloc::Global;
 
-/// What the look-ups of words found.
+/// The inputs that the look-ups of words found, and those that are missing.
 #[derive(Drop)]
 pub struct Sought {
     /// The inputs whose files are there.
@@ -112,7 +112,10 @@ fn has_faults(faults: &FaultList) -> bool
     faults.as_slice().len() > 0
 }
 
-/// The inputs that were looked for, where none of them is missing.
+/// The inputs of a command, where none of them is missing.
+///
+/// # Errors
+/// The faults of all missing inputs.
 fn all_found(sought: Sought) -> Result<InputNameList, Status>
     ensures { SoughtGives sought result }
 {

@@ -1,6 +1,5 @@
 use Rattle.std.proofs.Common.{ap, ◌∙◌, List, ℕ, ◌++◌, ◌∷◌, [], map}
 use Rattle.std.specs.Prelude.{codes}
-use Rattle.lk_model.specs.Inputs.{candidates_of}
 use Rattle.lk_inputs.specs.Candidates.{candidate_in}
 use Rattle.lk_inputs.proofs.CandidatesJoined.{all_places}
 use Rattle.lk_inputs.proofs.places.candidates_of.Goals as goal

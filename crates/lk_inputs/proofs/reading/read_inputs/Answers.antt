@@ -1,4 +1,5 @@
-use Rattle.std.proofs.Common.{rules, ◌≡◌, ◌≤◌, ◌^◌, ap, sym, ◌∙◌, arith, ◌++◌, ◌∷◌, [], length, map, Err}
+use Rattle.std.proofs.Common.{rules, ◌≡◌, ◌<◌, ◌≤◌, ◌^◌, ap, sym, subst, ◌∙◌, arith, ℕ, List, ◌++◌, ◌∷◌, [], length, map, Err}
+use Rattle.std.specs.Prelude.{All}
 use Rattle.std.proofs.lemmas.Grind.{common_steps}
 use Rattle.std.proofs.lemmas.List.Elements.{All-push, All-same}
 use Rattle.std.proofs.lemmas.Result.{err_from_is_err_and}
@@ -6,6 +7,7 @@ use Rattle.std.specs.Vec.Iter.{into_iter_items}
 use Rattle.lk_inputs.specs.declared.input_files.InputFile.{InputFile}
 use Rattle.lk_inputs.specs.Asked.{file_name, name_path}
 use Rattle.lk_inputs.specs.FileAnswers.{known_reads}
+use Rattle.lk_inputs.specs.FileNumbers.{FileFits}
 use Rattle.lk_inputs.proofs.FilesAskedFor.{all_read, done, next_limit, next_there, put_files, put_names, put_reads, reads_ended, reads_named, reads_stopped, status_in_turn}
 use Rattle.lk_inputs.proofs.reading.read_inputs.Goals as goal
 
@@ -35,7 +37,9 @@ returns-then-is_err-clause-asked g c =
 pub loop-name-preserved : goal.loop-name-preserved
 loop-name-preserved g c =
     let left : into_iter_items c.loop-name.name-iterator ≡ c.in-Some.name ∷ into_iter_items c.next.new.self = c.in-Some.ensures.steps.0 in
-    let pushed : c.push.new.self ≡ c.loop-name.inputs ++ record { name = c.in-Some.name; bytes = c.in_ok-bytes.bytes } ∷ [] = done c.push.result _ (sym c.is_err.ensures.value ∙ c.if-is_err.false) c.push.ensures.pushed in
+    let put : c.push.new.self ≡ c.loop-name.inputs ++ c.input_of.result ∷ [] = done c.push.result _ (sym c.is_err.ensures.value ∙ c.if-is_err.false) c.push.ensures.pushed in
+    let pushed : c.push.new.self ≡ c.loop-name.inputs ++ record { name = c.in-Some.name; bytes = c.in_ok-bytes.bytes } ∷ [] = put ∙ ap (λ (input : InputFile). c.loop-name.inputs ++ input ∷ []) c.input_of.ensures.is in
+    let small : length c.in_ok-bytes.bytes ≤ 2 ^ 26 = grind (arith, common_steps) in
     record {
       kept = c.in_ok-bytes.ensures.kept ∙ c.loop-name.invariant.kept;
       reads =
@@ -52,7 +56,10 @@ loop-name-preserved g c =
           left (c.in_ok-bytes.ensures.reported there (c.loop-name.invariant.kept ∙ e)) (c.loop-name.invariant.all there e);
       total = c.in-Ok.ensures.short;
       short = All-same (λ (input : InputFile). length input.bytes ≤ 2 ^ 26) c.push.new.self (c.loop-name.inputs ++ record { name = c.in-Some.name; bytes = c.in_ok-bytes.bytes } ∷ []) pushed
-          (All-push (λ (input : InputFile). length input.bytes ≤ 2 ^ 26) c.loop-name.inputs (record { name = c.in-Some.name; bytes = c.in_ok-bytes.bytes }) c.loop-name.invariant.short (grind (arith, common_steps)));
+          (All-push (λ (input : InputFile). length input.bytes ≤ 2 ^ 26) c.loop-name.inputs (record { name = c.in-Some.name; bytes = c.in_ok-bytes.bytes }) c.loop-name.invariant.short small);
+      fit = All-same FileFits c.push.new.self (c.loop-name.inputs ++ record { name = c.in-Some.name; bytes = c.in_ok-bytes.bytes } ∷ []) pushed
+          (All-push FileFits c.loop-name.inputs (record { name = c.in-Some.name; bytes = c.in_ok-bytes.bytes }) c.loop-name.invariant.fit
+          (record { name = c.input_of.ensures.fits; bytes = subst (λ (bytes : List ℕ). All (λ b. b < 256) bytes) c.as_slice.ensures c.in-Ok.ensures.bytes; size = omega (arith, small) }));
       unlooked = c.in_ok-bytes.ensures.unlooked ∙ c.loop-name.invariant.unlooked;
       last = c.in_ok-bytes.ensures.last ∙ c.loop-name.invariant.last;
       misses = c.in_ok-bytes.ensures.misses ∙ c.loop-name.invariant.misses;

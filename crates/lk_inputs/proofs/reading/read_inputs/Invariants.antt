@@ -3,6 +3,7 @@ use Rattle.std.specs.Prelude.{All}
 use Rattle.std.specs.Vec.Iter.{into_iter_items}
 use Rattle.lk_report.specs.FileMap.{FileMap}
 use Rattle.lk_inputs.specs.Asked.{known_failed, file_name, known_stats}
+use Rattle.lk_inputs.specs.FileNumbers.{FileFits}
 use Rattle.lk_inputs.specs.FilesRead.{are_names_there, files_at, sizes_limit}
 use Rattle.lk_inputs.specs.Named.{file_path}
 use Rattle.lk_inputs.specs.FileAnswers.{known_map, known_reads, reads_with}
@@ -17,6 +18,7 @@ invariant-loop-name g l = record {
   all : (there : FileMap) → known_map (g.F.Files.state l.initial.files) ≡ Some there → are_names_there there (into_iter_items l.name-iterator) ≡ are_names_there there l.fn.names;
   total : l.total ≤ 2 ^ 30;
   short : All (λ input. length input.bytes ≤ 2 ^ 26) l.inputs;
+  fit : All FileFits l.inputs;
   unlooked : known_stats (g.F.Files.state l.files) ≡ known_stats (g.F.Files.state l.initial.files);
   last : known_failed (g.F.Files.state l.files) ≡ known_failed (g.F.Files.state l.initial.files);
   misses : (g.F.Files.state l.files).misses ≡ (g.F.Files.state l.initial.files).misses;

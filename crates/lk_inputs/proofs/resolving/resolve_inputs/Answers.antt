@@ -9,10 +9,13 @@ use Rattle.lk_inputs.proofs.resolving.resolve_inputs.Goals as goal
 
 -- what is resolved is what the inputs decide, whichever inputs these are
 pub returns-in-Ok-clause-resolution : goal.returns-in-Ok-clause-resolution
-returns-in-Ok-clause-resolution c = λ xs are kept.
+returns-in-Ok-clause-resolution c = λ xs given.
+    let are = c.as_slice-files.ensures ∙ given.files in
     c.settle.ensures.resolution c.args.entry.now (paths_of xs) (added_inputs c.args.entry.now xs)
-    (c.in-Ok.ensures xs are kept
+    (c.in-Ok.ensures xs are (c.as_slice-summaries.ensures ∙ given.summaries)
     ∙ ap (λ (paths : List (List ℕ)). Some (state_of c.args.entry.now paths (added_inputs c.args.entry.now xs))) (ap (map file_path) are ∙ paths_are xs))
 
 pub returns-in-Ok-clause-paths : goal.returns-in-Ok-clause-paths
-returns-in-Ok-clause-paths c = paths_if_ok c.args.entry.now c.args.files.now c.args.summaries.now c.settle.result c.requires (returns-in-Ok-clause-resolution c)
+returns-in-Ok-clause-paths c =
+    paths_if_ok c.args.entry.now c.args.inputs.now.files c.args.inputs.now.summaries c.settle.result c.requires
+    (λ xs are kept. returns-in-Ok-clause-resolution c xs (record { files = are; summaries = kept }))
