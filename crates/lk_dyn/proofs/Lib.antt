@@ -1,3 +1,6 @@
 pub mod Numbers
 pub mod ChainsMade
 pub mod PutInTurn
+pub mod TextsPut
+pub mod SymbolsNumbered
+pub mod RelocationsPut

@@ -1,2 +1,4 @@
 pub mod LowBits
 pub mod HashWords
+pub mod DynsymNumbers
+pub mod JumpSlots

@@ -7,11 +7,17 @@
 
 mod appending;
 mod calls;
+mod dynsym_numbers;
 mod hash_tables;
 mod hashing;
 mod low_bits;
+mod relocations;
 mod sections;
+mod texts;
 
 pub use calls::{got_plt_table, plt_table};
+pub use dynsym_numbers::DynsymNumbers;
 pub use hash_tables::hash_table;
 pub use hashing::sysv_hash;
+pub use relocations::rela_plt_table;
+pub use texts::{interp_table, text_table};
