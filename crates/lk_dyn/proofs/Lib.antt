@@ -4,3 +4,4 @@ pub mod PutInTurn
 pub mod TextsPut
 pub mod SymbolsNumbered
 pub mod RelocationsPut
+pub mod NamesLookedUp

@@ -2,3 +2,4 @@ pub mod LowBits
 pub mod HashWords
 pub mod DynsymNumbers
 pub mod JumpSlots
+pub mod HashLookUps
