@@ -12,7 +12,8 @@ use Rattle.lk_model.specs.ObjectChecks.{object_fault}
 use Rattle.lk_inputs.specs.FilesRead.{fault_in, summary_of}
 use Rattle.lk_inputs.specs.declared.input_files.InputFile.{InputFile}
 use Rattle.lk_model.specs.declared.input_names.InputName.{InputName}
-use Rattle.lk_scan_inputs.specs.Objects.{HasObjects, input_names, marked_objects, marks_of, objects_from, objects_of, with_input}
+use Rattle.lk_marks.specs.Marked.{marks_of}
+use Rattle.lk_scan_inputs.specs.Objects.{HasObjects, input_names, marked_objects, objects_from, objects_of, with_input}
 use Rattle.lk_scan_inputs.specs.declared.object_reading.LinkObjects.{LinkObjects}
 
 -- one more file is read, of those that are left
