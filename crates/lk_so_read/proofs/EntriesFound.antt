@@ -1,4 +1,4 @@
--- The entries of a dynamic section one after another: the first SONAME before the first NULL.
+-- The entries of a dynamic section one after another: those before the first NULL, and the first SONAME of them.
 use Rattle.std.specs.Prelude.{◌≡◌, refl, ℕ, zero, suc, ◌+◌, ◌-◌, ◌/◌, ◌<◌, ◌≤◌, Bool, true, false, cond, if◌then◌else◌, not, List, [], ◌∷◌, find, map, option_map, take, Some, None}
 use Rattle.std.specs.List.{before_first, position_or_len, range_with_len}
 use Rattle.std.proofs.Common.{ap, arith, sym, ◌∙◌}
@@ -15,7 +15,7 @@ use Rattle.lk_so_read.specs.DynamicParts.{entries_from, entry_at, entry_count, s
 take-more : (n : ℕ) (e : Dyn) (es : List Dyn) → take (1 + n) (e ∷ es) ≡ e ∷ take n es
 take-more n e es = let more : 1 + n ≡ suc n = omega arith in ap (λ m. take m (e ∷ es)) more
 
-before-cons : (p : Dyn → Bool) (e : Dyn) (es : List Dyn) → before_first p (e ∷ es) ≡ cond (p e) [] (e ∷ before_first p es)
+pub before-cons : (p : Dyn → Bool) (e : Dyn) (es : List Dyn) → before_first p (e ∷ es) ≡ cond (p e) [] (e ∷ before_first p es)
 before-cons p e es = go (p e)
   where
     go : (b : Bool) → take (cond (not b) (1 + position_or_len p es) 0) (e ∷ es) ≡ cond b [] (e ∷ before_first p es)
@@ -80,8 +80,12 @@ whole : (b : Bool) (size : ℕ) → (if b then size else 0) / dyn_size ≡ (if b
 whole true size = refl
 whole false size = refl
 
+pub entries_read : (bytes : List ℕ) (header : Shdr) → entries_under (elf_of bytes) header ≡ before_first (has_tag dt_null) (entries_from bytes header 0 (entry_count bytes header))
+unfolding elf_of elf_under elf_with entries_under counted_entries
+entries_read bytes header =
+    ap (λ n. before_first (has_tag dt_null) (map (entry_at bytes header) (range_with_len 0 n))) (whole (lies_in bytes header.sh_offset header.sh_size) header.sh_size)
+    ∙ ap (λ (entries : List Dyn). before_first (has_tag dt_null) entries) (from-map bytes header 0 (entry_count bytes header))
+
 pub soname_read : (bytes : List ℕ) (header : Shdr) → first_with_tag dt_soname (entries_under (elf_of bytes) header) ≡ soname_among (entries_from bytes header 0 (entry_count bytes header))
-unfolding elf_of elf_under elf_with entries_under counted_entries soname_among
-soname_read bytes header =
-    ap (λ n. first_with_tag dt_soname (before_first (has_tag dt_null) (map (entry_at bytes header) (range_with_len 0 n)))) (whole (lies_in bytes header.sh_offset header.sh_size) header.sh_size)
-    ∙ ap (λ (entries : List Dyn). first_with_tag dt_soname (before_first (has_tag dt_null) entries)) (from-map bytes header 0 (entry_count bytes header))
+unfolding soname_among
+soname_read bytes header = ap (λ (entries : List Dyn). first_with_tag dt_soname entries) (entries_read bytes header)

@@ -13,7 +13,7 @@ use lk_elf::{Dyn, Shdr};
 use lk_obj_parts::lies_in;
 
 /// How many whole entries a dynamic section has in the file; none where its bytes do not lie in it.
-fn entry_count(bytes: &[u8], dynamic: &Shdr) -> usize
+pub(crate) fn entry_count(bytes: &[u8], dynamic: &Shdr) -> usize
     ensures value { result ≡ entry_count bytes.now dynamic.now }
     ensures numbers { 0 < result → dynamic.now.sh_offset + 16 * result ≤ length bytes.now }
 {
@@ -24,7 +24,7 @@ fn entry_count(bytes: &[u8], dynamic: &Shdr) -> usize
     }
 }
 
-fn entry_at(bytes: &[u8], at: usize) -> Dyn
+pub(crate) fn entry_at(bytes: &[u8], at: usize) -> Dyn
     requires { at + 16 ≤ length bytes.now }
     ensures { result ≡ dyn_at bytes.now at }
 {
