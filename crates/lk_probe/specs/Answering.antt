@@ -6,6 +6,7 @@ use Rattle.lk_report.specs.FileMap.{FileMap}
 use Rattle.lk_report.specs.Texts.{text_of}
 use Rattle.lk_report.specs.declared.statuses.Status.{Status}
 use Rattle.lk_probe.specs.FileTexts.{ReportsFile}
+use Rattle.lk_probe.specs.LoadTexts.{ReportsLoad}
 use Rattle.lk_probe.specs.Rows.{ReportsPlaces}
 use Rattle.lk_probe.specs.ResolutionTexts.{Reports}
 use Rattle.lk_probe.specs.declared.arguments.Asked.{Asked}
@@ -14,6 +15,7 @@ use Rattle.lk_probe.specs.declared.arguments.Asked.TheVariants as asked
 -- what answers, by the map of the files
 abbrev pub Answers : Asked → FileMap → Result (List ℕ) Status → Type 0
 Answers (asked.Read path) there answer = ReportsFile path there answer
+Answers (asked.Load path) there answer = ReportsLoad path there answer
 Answers (asked.Resolve words) there answer = Reports words there answer
 Answers (asked.Layout words) there answer = ReportsPlaces words there answer
 

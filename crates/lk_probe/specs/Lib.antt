@@ -4,4 +4,5 @@ pub mod Laying
 pub mod Rows
 pub mod Asking
 pub mod FileTexts
+pub mod LoadTexts
 pub mod Answering

@@ -2,7 +2,7 @@
 
 ghost use Rattle.std.specs.Prelude.{◌≡◌, IfOk, map, drop, string_bytes};
 ghost use Rattle.std.specs.Vec.Iter.{into_iter_items};
-ghost use Rattle.lk_probe.specs.Asking.{asked_in, file_asked};
+ghost use Rattle.lk_probe.specs.Asking.{asked_in, file_asked, file_in, image_asked};
 
 use lk_report::{List, Name, NameList, NoMemory};
 use std::alloc::Global;
@@ -13,6 +13,8 @@ use std::env::Args;
 pub enum Asked {
     /// What this file is.
     Read(Name),
+    /// What a loader makes of this file.
+    Load(Name),
     /// What the inputs of these words decide.
     Resolve(NameList),
     /// Where a link of these words, made anew, puts everything.
@@ -29,20 +31,37 @@ pub fn what_is_asked(alloc: Global, mut all: Args) -> Result<Option<Asked>, NoMe
     };
     match word.as_str() {
         "read" => Ok(asked_file(all)),
+        "load" => Ok(asked_image(all)),
         "resolve" => Ok(Some(Asked::Resolve(words_of(alloc, all)?))),
         "layout" => Ok(Some(Asked::Layout(words_of(alloc, all)?))),
         _ => Ok(None),
     }
 }
 
-/// The file that is to be read, where exactly one argument is left, which names it.
-fn asked_file(mut all: Args) -> Option<Asked>
-    ensures { result ≡ file_asked (map string_bytes (into_iter_items all)) }
+/// The file that is named, where exactly one argument is left.
+fn only_file(mut all: Args) -> Option<Name>
+    ensures { result ≡ file_in (map string_bytes (into_iter_items all)) }
 {
     match all.next() {
-        Some(file) if all.next().is_none() => Some(Asked::Read(Name::from_vec(file.into_bytes()))),
+        Some(file) if all.next().is_none() => Some(Name::from_vec(file.into_bytes())),
         _ => None,
     }
+}
+
+/// The file that is to be read, where exactly one argument is left, which names it.
+fn asked_file(all: Args) -> Option<Asked>
+    ensures { result ≡ file_asked (map string_bytes (into_iter_items all)) }
+{
+    let path = only_file(all)?;
+    Some(Asked::Read(path))
+}
+
+/// The file that is to be loaded, where exactly one argument is left, which names it.
+fn asked_image(all: Args) -> Option<Asked>
+    ensures { result ≡ image_asked (map string_bytes (into_iter_items all)) }
+{
+    let path = only_file(all)?;
+    Some(Asked::Load(path))
 }
 
 /// The arguments that are left.

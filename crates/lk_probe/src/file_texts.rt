@@ -35,7 +35,7 @@ fn object_reported(alloc: Global, sections: usize, symbols: usize) -> Result<Byt
 }
 
 /// The status of one fault.
-fn one_fault(alloc: Global, fault: Fault) -> Status
+pub fn one_fault(alloc: Global, fault: Fault) -> Status
     ensures { IsOneFault fault result }
 {
     let mut faults = List::new(alloc);

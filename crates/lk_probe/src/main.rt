@@ -1,7 +1,9 @@
 //! A program for developers, and for whoever wants objects validated or wants to know what a link is made of.
 //!
 //! `lk_probe read FILE` says `object` with the numbers of the file's sections and symbols, or its first fault
-//! as the linker would tell it. `lk_probe resolve WORDS`, of the words of a link, says which inputs are added,
+//! as the linker would report it. `lk_probe load FILE` says what a loader makes of an executable: its runs of
+//! bytes by address, size and rights, its entry, its thread-local segment, what it needs, and how many symbols and
+//! relocations it names; or why a loader takes none. `lk_probe resolve WORDS`, of the words of a link, says which inputs are added,
 //! in adding order, and how many names there are, or what the linker would tell of the words and the inputs
 //! before it looks at relocations. `lk_probe layout WORDS` says where a link of these words, made anew, puts its
 //! output sections, and how many pieces it keeps, or what the linker would tell before it has an image. It ends
@@ -16,6 +18,7 @@ mod answering;
 mod arguments;
 mod file_texts;
 mod laying;
+mod load_texts;
 mod placing;
 mod reading;
 mod resolution_texts;
@@ -45,7 +48,7 @@ fn main(rt: HostRuntime) -> ExitCode {
 /// Says how the program is called.
 fn usage(rt: HostRuntime) -> ExitCode {
     let _printed = println!(rt;
-        "usage: lk_probe read FILE\n       lk_probe resolve WORDS\n       lk_probe layout WORDS"
+        "usage: lk_probe read FILE\n       lk_probe load FILE\n       lk_probe resolve WORDS\n       lk_probe layout WORDS"
     );
     ExitCode::from(2)
 }

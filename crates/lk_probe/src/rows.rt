@@ -38,8 +38,8 @@ fn put_key(text: &mut Vec<u8>, key: &SectionKey) -> Result<(), NoMemory>
     put(text, class_text(key.class))
 }
 
-/// Puts one of its numbers.
-fn put_field(alloc: Global, text: &mut Vec<u8>, number: u64) -> Result<(), NoMemory>
+/// Puts a number after a space.
+pub fn put_field(alloc: Global, text: &mut Vec<u8>, number: u64) -> Result<(), NoMemory>
     ensures { OnOk result (text.new.items ≡ text.old.items ++ field_text number) }
 {
     put(text, b" ")?;
