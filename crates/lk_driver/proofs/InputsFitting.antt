@@ -1,12 +1,15 @@
 -- Of inputs as they were read: their numbers and texts fit, no fault is found in them, and a link of them is static.
 use Rattle.std.proofs.Common.{◌≡◌, refl, sym, ap, ◌∙◌, arith, subst, ℕ, ◌+◌, ◌<◌, ◌≤◌, ◌^◌, ◌==◌, Bool, true, false, ◌&&◌, ◌||◌, cond, if◌then◌else◌, List, [], ◌∷◌, length, map, Option, Some, None, Result, Ok, Err}
-use Rattle.std.specs.Prelude.{bytes_eq, filter_map, find, option_map}
+use Rattle.std.specs.Prelude.{All, IfSome, bytes_eq, filter_map, find, option_map}
 use Rattle.std.specs.List.{AllByRecursion, cons_option}
+use mir.Syntax.{w64}
+use mir.Val.{SFits}
 use Rattle.std.proofs.lemmas.List.{length-map}
 use Rattle.std.proofs.lemmas.List.Elements.{recursion_from_All}
 use Rattle.lk_report.specs.declared.causes.OptionRecord.{OptionRecord}
 use Rattle.lk_report.specs.declared.faults.Fault.TheVariants as fault
 use Rattle.lk_report.specs.declared.faults.InputFault.{InputFault}
+use Rattle.lk_report.specs.declared.stamps.Stamp.{Stamp}
 use Rattle.lk_report.specs.declared.statuses.Status.TheVariants as status
 use Rattle.lk_report.specs.declared.statuses.Waiting.TheVariants as waiting
 use Rattle.lk_model.specs.declared.summaries.InputSummary.{InputSummary}
@@ -29,14 +32,14 @@ use Rattle.lk_model.proofs.AddedOnce.{added_inputs_have}
 use Rattle.lk_scan_inputs.specs.Objects.{AreObjects, IsObject}
 use Rattle.lk_inputs.specs.declared.input_files.InputFile.{InputFile}
 use Rattle.lk_inputs.specs.declared.inputs.Inputs.{Inputs}
+use Rattle.lk_inputs.specs.FileNumbers.{FileFits}
 use Rattle.lk_inputs.specs.Named.{file_of, files_of}
-use Rattle.lk_law_records.specs.Recordable.{HasOtherNames, InputFits, InputsFit, SummaryFits, has_zero, is_record_name}
+use Rattle.lk_law_records.specs.Recordable.{HasOtherNames, InputFits, InputsFit, StampFits, SummaryFits, has_zero, is_record_name}
 use Rattle.lk_law_records.proofs.ByteNumbers.{IsLowElf, elf-low}
 use Rattle.lk_law_records.proofs.Lists.{all-first, all-second, length-passing}
 use Rattle.lk_law_records.proofs.ObjectFits.{object-fits}
 use Rattle.lk_law_records.proofs.SoundNames.{pieces-other}
 use Rattle.lk_records.specs.Occurrences.{OccurrencesAreRight, occurrence_of, occurrences_after}
-use Rattle.lk_driver.specs.FileBytes.{FileBytesFit}
 use Rattle.lk_driver.specs.ReadInputs.{AreReadInputs}
 
 -- ---- what holds of all inputs
@@ -57,18 +60,22 @@ counts_low xs right few =
     unmapped occurrence_of (λ n. n < 2 ^ 32) xs
     (subst (λ (ns : List ℕ). AllByRecursion (λ n. n < 2 ^ 32) ns) (sym right) (occurrences_low [] (paths_of xs) (omega (arith, size, few))))
 
-files_fit : (xs : List Input) (inputs : Inputs) → inputs.files ≡ files_of xs → AllByRecursion FileBytesFit inputs.files → AllByRecursion (λ (x : Input). FileBytesFit (file_of x)) xs
-files_fit xs inputs are all = unmapped file_of FileBytesFit xs (subst (λ (files : List InputFile). AllByRecursion FileBytesFit files) are all)
+files_fit : (xs : List Input) (inputs : Inputs) → inputs.files ≡ files_of xs → AllByRecursion FileFits inputs.files → AllByRecursion (λ (x : Input). FileFits (file_of x)) xs
+files_fit xs inputs are all = unmapped file_of FileFits xs (subst (λ (files : List InputFile). AllByRecursion FileFits files) are all)
 
 -- ---- an input's numbers and texts fit
 
 summary_is : (x : Input) → IsObject x → x.summary ≡ summary_in (elf_of x.elf.bytes)
 summary_is x is = is.summary ∙ ap summary_in is.file
 
-summary_fits : (x : Input) → IsObject x → FileBytesFit (file_of x) → SummaryFits x.summary
+summary_fits : (x : Input) → IsObject x → FileFits (file_of x) → SummaryFits x.summary
 summary_fits x is fits =
     let low : IsLowElf (elf_of x.elf.bytes) = elf-low x.elf.bytes (recursion_from_All (λ b. b < 256) x.elf.bytes fits.bytes) fits.size in
     subst SummaryFits (sym (summary_is x is)) (object-fits (elf_of x.elf.bytes) low)
+
+stamp_fits : (stamp : Option Stamp) → IfSome stamp (λ (s : Stamp). s.length < 2 ^ 64) → IfSome stamp (λ (s : Stamp). SFits w64 s.modified) → StampFits stamp
+stamp_fits None length modified = tt
+stamp_fits (Some s) length modified = (length, modified)
 
 abbrev AllOther : List PieceInfo → Type 0
 AllOther ps = AllByRecursion (λ (p : PieceInfo). is_record_name p.name ≡ false) ps
@@ -83,16 +90,16 @@ names_other x is =
     subst AllOther (sym pieces) (pieces-other x.elf.bytes is.no_fault)
 
 all_fit : (xs : List Input) → AreObjects xs → AllByRecursion (λ (x : Input). has_zero x.path ≡ false) xs → AllByRecursion (λ (x : Input). x.occurrence < 2 ^ 32) xs
-    → AllByRecursion (λ (x : Input). FileBytesFit (file_of x)) xs → AllByRecursion (λ (x : Input). InputFits x × HasOtherNames x) xs
+    → AllByRecursion (λ (x : Input). FileFits (file_of x)) xs → AllByRecursion (λ (x : Input). InputFits x × HasOtherNames x) xs
 all_fit [] are paths counts files = tt
 all_fit (x ∷ xs) are paths counts files =
-    let fits : InputFits x = record { path = paths.0; occurrence = counts.0; lib = files.0.lib; stamp = files.0.stamp; summary = summary_fits x are.0 files.0 } in
+    let fits : InputFits x = record { path = paths.0; occurrence = counts.0; lib = files.0.name.lib; stamp = stamp_fits x.stamp files.0.name.length files.0.name.modified; summary = summary_fits x are.0 files.0 } in
     ((fits, names_other x are.0), all_fit xs are.1 paths.1 counts.1 files.1)
 
-pub inputs_fit : (options : OptionRecord) (xs : List Input) (inputs : Inputs) → AreReadInputs options xs inputs → AllByRecursion FileBytesFit inputs.files → InputsFit options xs
+pub inputs_fit : (options : OptionRecord) (xs : List Input) (inputs : Inputs) → AreReadInputs options xs inputs → All FileFits inputs.files → InputsFit options xs
 inputs_fit options xs inputs read files =
     let few = read.few in
-    let both = all_fit xs read.objects read.paths (counts_low xs read.occurrences few) (files_fit xs inputs read.given.files files) in
+    let both = all_fit xs read.objects read.paths (counts_low xs read.occurrences few) (files_fit xs inputs read.given.files (recursion_from_All FileFits inputs.files files)) in
     record {
       options = read.texts;
       count = omega (arith, few);

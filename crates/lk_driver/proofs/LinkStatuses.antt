@@ -1,4 +1,4 @@
--- What is answered of the link of inputs that were read: it is done, or has faults of which none reports of a missing
+-- What is answered of the link of inputs that were read: it is done, or has faults of which none reports a missing
 -- input, or waits, or exceeds a limit other than that on the number of inputs.
 use Rattle.std.proofs.Common.{◌≡◌, refl, ℕ, ◌==◌, ◌^◌, Bool, true, false, ◌&&◌, ◌||◌, not, cond, if◌then◌else◌, List, [], ◌∷◌, ◌++◌, fold, flat_map, filter, filter_map, length, map, Option, Some, None}
 use Rattle.std.specs.Prelude.{nat_lt, slice_get, zip}
@@ -34,7 +34,7 @@ use Rattle.lk_inputs.specs.Asked.{is_missing}
 use Rattle.lk_driver.specs.LinkStatuses.{IsLinkStatus}
 use Rattle.lk_model.specs.SectionKeys.{is_alloc}
 
--- ---- faults of which none reports of a missing input
+-- ---- faults of which none reports a missing input
 
 abbrev IsOther : Fault → Type 0
 IsOther f = is_missing f ≡ false

@@ -1,6 +1,6 @@
 -- The passes of a link, one after another, answer what lk_model does, and make an image that is a link.
 use Rattle.std.proofs.Common.{◌≡◌, ◌≤◌, ◌^◌, refl, sym, ap, subst, ◌∙◌, ℕ, true, List, [], ◌∷◌, map, Result, Ok, Err}
-use Rattle.std.specs.List.{AllByRecursion}
+use Rattle.std.specs.Prelude.{All}
 use Rattle.lk_report.specs.declared.causes.OptionRecord.{OptionRecord}
 use Rattle.lk_report.specs.declared.statuses.Status.{Status}
 use Rattle.lk_report.specs.declared.statuses.Status.TheVariants as status
@@ -12,9 +12,8 @@ use Rattle.lk_model.specs.References.{recorded_of}
 use Rattle.lk_model.specs.Resolving.{resolve}
 use Rattle.lk_model.specs.Views.{Input, Resolved}
 use Rattle.lk_model.specs.declared.layouts.Placement.{Placement}
-use Rattle.lk_model.specs.declared.summaries.InputSummary.{InputSummary}
 use Rattle.lk_model.specs.InputNames.{name_of}
-use Rattle.lk_resolve.specs.Given.{IsGiven}
+use Rattle.lk_resolve.specs.Given.{IsGiven, found_in}
 use Rattle.lk_image.specs.ImageAnswers.{ImageAnswers}
 use Rattle.lk_image.specs.PlacedLinks.{IsPlacedLink}
 use Rattle.lk_law_writes.specs.Layable.{Layable}
@@ -23,17 +22,15 @@ use Rattle.lk_law_placement.proofs.PiecesLawful.{inputs_are_lawful}
 use Rattle.lk_scan_inputs.specs.Objects.{input_names}
 use Rattle.lk_scan_inputs.specs.declared.link_scanning.ScannedInputs.{ScannedInputs}
 use Rattle.lk_law_loading.specs.Loadable.{WithinLimits}
+use Rattle.lk_inputs.specs.FileNumbers.{FileFits}
 use Rattle.lk_inputs.specs.Named.{files_of}
-use Rattle.lk_inputs.specs.declared.input_files.InputFile.{InputFile}
 use Rattle.lk_model.specs.declared.input_names.InputName.{InputName}
 use Rattle.lk_inputs.specs.declared.inputs.Inputs.{Inputs}
 use Rattle.lk_records.specs.Occurrences.{OccurrencesAreRight}
-use Rattle.lk_resolve.specs.Settling.{ResolutionValue}
-use Rattle.lk_driver.specs.FileBytes.{FileBytesFit}
+use Rattle.lk_resolve.specs.Settling.{IsFound, ResolutionValue}
 use Rattle.lk_driver.specs.LinkAnswers.{LinkAnswers}
-use Rattle.lk_driver.specs.LinkPasses.{IsPlaced, IsRefused, LinkGives, NeedsAnswer, PlaceAnswers, ScanAnswers, SettleAnswers, needs_answer, path_of_first}
+use Rattle.lk_driver.specs.LinkPasses.{IsPlaced, IsRefused, IsScanned, LinkGives, NeedsAnswer, PlaceAnswers, needs_answer, path_of_first}
 use Rattle.lk_driver.specs.ReadInputs.{AreReadInputs}
-use Rattle.lk_driver.specs.ScannedLinks.{IsScannedLink}
 use Rattle.lk_driver.proofs.ImagesLinked.{image_linked}
 use Rattle.lk_driver.proofs.InputsFitting.{inputs_fit, is_static, sound_inputs}
 use Rattle.lk_driver.proofs.ObjectsStored.{objects_stored}
@@ -52,7 +49,14 @@ path_of_inputs options (x ∷ xs) = refl
 
 -- ---- a link whose references are scanned
 
-module _ (options : OptionRecord) (xs : List Input) (summaries : List InputSummary) (resolution : ResolutionValue) (scanned : ScannedInputs) (link : IsScannedLink options xs summaries resolution scanned) where
+-- the resolution of inputs that were read, and the scan of their references
+pub record IsScannedLink (options : OptionRecord) (xs : List Input) (inputs : Inputs) (resolution : ResolutionValue) (scanned : ScannedInputs) : Type 0 where
+  pub read : AreReadInputs options xs inputs
+  pub fit : All FileFits inputs.files
+  pub found : IsFound resolution (found_in options.entry xs)
+  pub scan : IsScanned (resolve options xs) inputs.files scanned
+
+module _ (options : OptionRecord) (xs : List Input) (inputs : Inputs) (resolution : ResolutionValue) (scanned : ScannedInputs) (link : IsScannedLink options xs inputs resolution scanned) where
   names_are : scanned.names ≡ map name_of xs
   names_are = link.scan.3 ∙ ap input_names link.read.given.files ∙ names_of_files xs
 
@@ -73,8 +77,8 @@ module _ (options : OptionRecord) (xs : List Input) (summaries : List InputSumma
   needs_refused (status.NotUpdated cause) h = absurd h
 
   -- what is given to the passes that lay out and make the image
-  pub given : IsGiven resolution summaries scanned.needs options xs
-  given = record { summarized = sym (link.summarized ∙ link.read.given.summaries); found = link.found; needed = sym link.scan.1 }
+  pub given : IsGiven resolution inputs.summaries scanned.needs options xs
+  given = record { summarized = sym link.read.given.summaries; found = link.found; needed = sym link.scan.1 }
 
   module _ (nothing : needs_nothing scanned.needs ≡ true) where
     none_needed : needs_nothing (resolve options xs).needs ≡ true
@@ -87,24 +91,24 @@ module _ (options : OptionRecord) (xs : List Input) (summaries : List InputSumma
       placed : IsPlaced (resolve options xs) place
       placed = answered.1
 
-      placed_link : IsPlacedLink resolution summaries scanned.objects options xs place
+      placed_link : IsPlacedLink resolution inputs.summaries scanned.objects options xs place
       placed_link =
-          let sound = sound_inputs options xs link.inputs link.read in
+          let sound = sound_inputs options xs inputs link.read in
           record {
             needs = scanned.needs;
             given = given;
-            objects_are = objects_stored options xs link.inputs.files scanned.objects link.read.given.files link.read.objects link.scan.4;
+            objects_are = objects_stored options xs inputs.files scanned.objects link.read.given.files link.read.objects link.scan.4;
             lawful = subst (Lawful (resolve options xs)) (sym placed.full) (inputs_are_lawful options xs sound);
             memory = subst (λ (p : Placement). memory_of p ≤ 2 ^ 31) (sym placed.full) placed.memory;
             layable = λ within. subst (Layable (resolve options xs)) (sym placed.full) (inputs_are_layable options xs sound (subst (WithinLimits (resolve options xs)) placed.full within));
-            tables = record { static = is_static options xs link.inputs link.read; nothing = none_needed };
+            tables = record { static = is_static options xs inputs link.read; nothing = none_needed };
           }
 
       -- the image
       pub image_reported :
           (result : Result (List ℕ) Status)
           → ((ys : List Input)
-          → IsPlacedLink resolution summaries scanned.objects options ys place
+          → IsPlacedLink resolution inputs.summaries scanned.objects options ys place
           → scanned.names ≡ map name_of ys
           → OccurrencesAreRight ys
           → scanned.references ≡ recorded_of (resolve options ys).references
@@ -113,7 +117,7 @@ module _ (options : OptionRecord) (xs : List Input) (summaries : List InputSumma
       image_reported result image =
           let answers = image xs placed_link names_are link.read.occurrences link.scan.2 in
           subst (λ (d : Status). LinkGives d (resolve options xs) result) (sym due)
-          (image_linked options xs place result (inputs_fit options xs link.inputs link.read link.fit) (sound_inputs options xs link.inputs link.read) placed answers)
+          (image_linked options xs place result (inputs_fit options xs inputs link.read link.fit) (sound_inputs options xs inputs link.read) placed answers)
 
 -- ---- the whole link
 
@@ -128,32 +132,10 @@ refused_reported r (status.Limit l) h = h
 refused_reported r (status.NotUpdated cause) h = h
 refused_reported r (status.NotYet waiting) h = h
 
--- what is known of a link once its references are scanned
-pub scanned_link :
-    (options : OptionRecord) (xs : List Input) (inputs : Inputs) (resolution : ResolutionValue) (scanned : ScannedInputs)
-    → AreReadInputs options xs inputs
-    → AllByRecursion FileBytesFit inputs.files
-    → SettleAnswers options xs (Ok resolution)
-    → ScanAnswers (resolve options xs) inputs.files (Ok scanned)
-    → IsScannedLink options xs inputs.summaries resolution scanned
-scanned_link options xs inputs resolution scanned read fit before scan = record {
-  inputs = inputs;
-  read = read;
-  fit = fit;
-  summarized = refl;
-  found = before.1;
-  scan = scan.1;
-}
-
 whole : (r : Resolved) (result : Result (List ℕ) Status) → LinkGives (resolved_answer r) r result → LinkAnswers r result
 whole r (Ok image) h = h
 whole r (Err s) h = refused_reported r s h
 
-pub link_reported :
-    (options : OptionRecord) (xs : List Input) (resolution : ResolutionValue) (files : List InputFile) (scanned : ScannedInputs) (result : Result (List ℕ) Status)
-    → SettleAnswers options xs (Ok resolution)
-    → ScanAnswers (resolve options xs) files (Ok scanned)
-    → LinkGives (needs_answer (resolve options xs)) (resolve options xs) result
-    → LinkAnswers (resolve options xs) result
-link_reported options xs resolution files scanned result before scan given =
-    whole (resolve options xs) result (subst (λ (d : Status). LinkGives d (resolve options xs) result) (sym (before.0 ∙ scan.0)) given)
+-- the answer of a pass, where the passes before it went on to this one
+pub link_answers : (r : Resolved) (later : Status) (result : Result (List ℕ) Status) → resolved_answer r ≡ later → LinkGives later r result → LinkAnswers r result
+link_answers r later result e given = whole r result (subst (λ (d : Status). LinkGives d r result) (sym e) given)

@@ -1,4 +1,4 @@
--- Paths that were asked for: all of them, none of them; and what is known of files that tell it.
+-- Paths that were asked for: all of them, none of them; and the map of files that report it.
 use Rattle.std.proofs.Common.{◌≡◌, refl, sym, ap, ℕ, [], List, Option, Some, None}
 use Rattle.std.specs.Prelude.{IfSome, option_map}
 use Rattle.std.proofs.lemmas.List.{append-nil}

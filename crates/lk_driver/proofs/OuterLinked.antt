@@ -16,11 +16,12 @@ use Rattle.lk_model.specs.declared.commands.Command.{Command}
 use Rattle.lk_outside.specs.FilesState.{FilesState, Known}
 use Rattle.lk_inputs.specs.AnswerLaws.{answer_unless}
 use Rattle.lk_inputs.specs.Asked.{Asked, LimitFirst, MissesReported, known_failed, is_missing, look_ups_of, paths_read, reads_before}
+use Rattle.lk_inputs.specs.InputsReading.{InputsRead}
 use Rattle.lk_inputs.specs.LookUps.{inputs_limit}
 use Rattle.lk_inputs.specs.Refusals.{AreInputs, CommandInputs, inputs_refusal}
 use Rattle.lk_inputs.specs.FileAnswers.{known_map}
 use Rattle.lk_inputs.specs.declared.inputs.Inputs.{Inputs}
-use Rattle.lk_driver.specs.ImageGiven.{ImageFirst, ImageGiven, ImageReported, IsAccepted, IsRefused, ReadGiven, status_of}
+use Rattle.lk_driver.specs.ImageGiven.{ImageFirst, ImageGiven, ImageReported, IsAccepted, IsRefused, status_of}
 use Rattle.lk_driver.specs.LinkAnswers.{LinkAnswers}
 use Rattle.lk_driver.specs.LinkStatuses.{IsLinkStatus}
 use Rattle.lk_driver.specs.Outer.{AnswerIs, FilesKept, InputsAsked, IsDue, IsImage, IsOfInputs, LastKept, MissingReported, ReadFaultReported, StatusAsked, words_answer}
@@ -33,7 +34,7 @@ use Rattle.lk_driver.proofs.OuterWords.{accepted-is, no-library, static-is, word
 
 -- ---- of what kind the answer of a link is
 
--- none of its refusals is one of words, of reads or of the device, and it reports of no missing input
+-- none of its refusals is one of words, of reads or of the device, and it reports no missing input
 abbrev LinkKind : Result (List ℕ) Status → Type 0
 LinkKind (Ok image) = Unit {0}
 LinkKind (Err status.NoMemory) = Unit {0}
@@ -178,9 +179,9 @@ as-resolved c there result h = h
 abbrev Links : Command → Inputs → Result (List ℕ) Status → Type 0
 Links c inputs result = (xs : List Input) → AreReadInputs c.options xs inputs → LinkAnswers (resolve c.options xs) result
 
--- where the files tell their map, the answer is that of what the command's inputs are resolved to
+-- where the files report their map, the answer is that of what the command's inputs are resolved to
 reported-link : (words : List (List ℕ)) (c : Command) (old new : FilesState) (inputs : Inputs) (result : Result (List ℕ) Status) (there : FileMap)
-    → IsAccepted words c → ReadGiven c old (Ok inputs) new → Links c inputs result → known_map old ≡ Some there
+    → IsAccepted words c → InputsRead c old (Ok inputs) new → Links c inputs result → known_map old ≡ Some there
     → (static_answer words there ≡ resolved_answer (resolved_of c there)) × LinkAnswers (resolved_of c there) result
 reported-link words c old new inputs result there a g links e =
     let few : inputs_limit c ≡ None = limit-none (inputs_limit c) inputs g.first in
@@ -191,7 +192,7 @@ reported-link words c old new inputs result there a g links e =
     )
 
 due-of : (words : List (List ℕ)) (c : Command) (old new : FilesState) (inputs : Inputs) (result : Result (List ℕ) Status)
-    → IsAccepted words c → ReadGiven c old (Ok inputs) new → Links c inputs result → LinkKind result → IsDue words old (status_of result)
+    → IsAccepted words c → InputsRead c old (Ok inputs) new → Links c inputs result → LinkKind result → IsDue words old (status_of result)
 due-of words c old new inputs result a g links k =
     if-some old.known (λ (state : Known). AnswerIs (status_of result) (static_answer words state.map)) (λ state e.
     let reported = reported-link words c old new inputs result state.map a g links (map-known old state e) in
@@ -199,7 +200,7 @@ due-of words c old new inputs result a g links k =
     subst P (sym reported.0) (answer-of (resolved_of c state.map) result reported.1 k))
 
 reported-image : (words : List (List ℕ)) (c : Command) (old new : FilesState) (inputs : Inputs) (result : Result (List ℕ) Status)
-    → IsAccepted words c → ReadGiven c old (Ok inputs) new → Links c inputs result → ImageReported words old result
+    → IsAccepted words c → InputsRead c old (Ok inputs) new → Links c inputs result → ImageReported words old result
 reported-image words c old new inputs (Ok image) a g links =
     if-some old.known (λ (state : Known). IsImage words state.map image) (λ state e.
     let reported = reported-link words c old new inputs (Ok image) state.map a g links (map-known old state e) in
@@ -209,11 +210,11 @@ reported-image words c old new inputs (Err s) a g links = tt
 -- ---- all of it
 
 kept-of : (words : List (List ℕ)) (c : Command) (old new : FilesState) (inputs : Inputs) (result : Result (List ℕ) Status)
-    → IsAccepted words c → ReadGiven c old (Ok inputs) new → LinkKind result → FilesKept (words_answer words) words old (status_of result) new
+    → IsAccepted words c → InputsRead c old (Ok inputs) new → LinkKind result → FilesKept (words_answer words) words old (status_of result) new
 kept-of words c old new inputs result a g k =
     let few : inputs_limit c ≡ None = limit-none (inputs_limit c) inputs g.first in
     let kept : InputsAsked words old (status_of result) new = record {
-      map = g.map;
+      map = g.kept;
       asked = λ d there is e.
           let same : c ≡ d = ok-same c d (sym a.is ∙ is) in
           let P : Command → Type 0 = λ x. StatusAsked x there old (status_of result) new in
@@ -227,7 +228,7 @@ kept-of words c old new inputs result a g k =
     ok-same c d e = cc
 
 pub linked : (words : List (List ℕ)) (c : Command) (old new : FilesState) (inputs : Inputs) (result : Result (List ℕ) Status)
-    → IsAccepted words c → ReadGiven c old (Ok inputs) new → Links c inputs result → ImageGiven words old result new
+    → IsAccepted words c → InputsRead c old (Ok inputs) new → Links c inputs result → ImageGiven words old result new
 linked words c old new inputs result a g links =
     let read : (xs : List Input) × AreReadInputs c.options xs inputs = as_read c inputs a.fits g.sound g.placed g.few in
     let k : LinkKind result = kind (resolve c.options read.0) result (links read.0 read.1) in

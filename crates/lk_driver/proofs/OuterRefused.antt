@@ -12,11 +12,12 @@ use Rattle.lk_model.specs.declared.commands.Command.{Command}
 use Rattle.lk_outside.specs.FilesState.{FilesState, Known}
 use Rattle.lk_inputs.specs.AnswerLaws.{answer_unless}
 use Rattle.lk_inputs.specs.Asked.{CommandAsked, IsOfReading, LimitFirst, StatusLast, StatusMisses, StatusNamed, all_places, look_ups_of, paths_read}
+use Rattle.lk_inputs.specs.InputsReading.{InputsRead}
 use Rattle.lk_inputs.specs.LookUps.{inputs_limit}
 use Rattle.lk_inputs.specs.Refusals.{CommandInputs, inputs_refusal}
 use Rattle.lk_inputs.specs.FileAnswers.{StatusCounts}
 use Rattle.lk_inputs.specs.declared.inputs.Inputs.{Inputs}
-use Rattle.lk_driver.specs.ImageGiven.{ImageFirst, ImageGiven, IsAccepted, IsRefused, ReadGiven, WordsGive}
+use Rattle.lk_driver.specs.ImageGiven.{ImageFirst, ImageGiven, IsAccepted, IsRefused, WordsGive}
 use Rattle.lk_driver.specs.Outer.{AnswerIs, FilesKept, IsDue, IsOfInputs, IsFirstRefusal, LastKept, MissingReported, NamesPlace, ReadFaultReported, StatusAsked, words_answer}
 use Rattle.lk_driver.proofs.OuterAsked.{asked-nothing, if-some, map-known}
 use Rattle.lk_driver.proofs.OuterWords.{accepted-is, no-library, static-is, usage-decides, usage-static, wait-decides, wait-static, words-decide}
@@ -95,7 +96,7 @@ either-of : (c : Command) (there : FileMap) (o : Option Status) (later s : Statu
 either-of c there None later s h k = answer-of c there later s h k
 either-of c there (Some due) later s h k = limit-of c there due s h k
 
-due-of : (words : List (List ℕ)) (c : Command) (old new : FilesState) (s : Status) → IsAccepted words c → ReadGiven c old (not_read s) new → IsDue words old s
+due-of : (words : List (List ℕ)) (c : Command) (old new : FilesState) (s : Status) → IsAccepted words c → InputsRead c old (not_read s) new → IsDue words old s
 due-of words c old new s a g =
     if-some old.known (λ (state : Known). AnswerIs s (static_answer words state.map)) (λ state e.
     let P : Status → Type 0 = λ due. AnswerIs s due in
@@ -152,17 +153,17 @@ last-of old new (status.NotYet w) h = h
 ok-same : (c d : Command) → (let x : Result Command UsageFault = Ok c in x) ≡ Ok d → c ≡ d
 ok-same c d e = cc
 
-kept-of : (words : List (List ℕ)) (c : Command) (o : Option Status) (old new : FilesState) (s : Status) → IsAccepted words c → (IsSome o → new ≡ old) → ReadGiven c old (not_read s) new → FilesKept o words old s new
+kept-of : (words : List (List ℕ)) (c : Command) (o : Option Status) (old new : FilesState) (s : Status) → IsAccepted words c → (IsSome o → new ≡ old) → InputsRead c old (not_read s) new → FilesKept o words old s new
 kept-of words c (Some due) old new s a same g = same refl
 kept-of words c None old new s a same g = record {
-  map = g.map;
+  map = g.kept;
   asked = λ d there is e.
       let P : Command → Type 0 = λ x. StatusAsked x there old s new in
       subst P (ok-same c d (sym a.is ∙ is)) (asked-of c there old new s g.kinds (g.asked there e));
   last = last-of old new s g.last;
 }
 
-refused-as : (words : List (List ℕ)) (c : Command) (old new : FilesState) (s : Status) → IsAccepted words c → ReadGiven c old (not_read s) new → ImageGiven words old (Err s) new
+refused-as : (words : List (List ℕ)) (c : Command) (old new : FilesState) (s : Status) → IsAccepted words c → InputsRead c old (not_read s) new → ImageGiven words old (Err s) new
 refused-as words c old new s a g =
     let P : Option Status → Type 0 = λ o. ImageFirst o old (Err s) new in
     let Q : Option Status → Type 0 = λ o. FilesKept o words old s new in
@@ -176,7 +177,7 @@ refused-as words c old new s a g =
       kept = subst Q (sym (words-decide words c a)) (kept-of words c (inputs_limit c) old new s a g.limit g);
     }
 
-pub refused : (words : List (List ℕ)) (c : Command) (old new : FilesState) (s : Status) (result : Result (List ℕ) Status) → IsAccepted words c → ReadGiven c old (Err s) new → result ≡ Err s → ImageGiven words old result new
+pub refused : (words : List (List ℕ)) (c : Command) (old new : FilesState) (s : Status) (result : Result (List ℕ) Status) → IsAccepted words c → InputsRead c old (Err s) new → result ≡ Err s → ImageGiven words old result new
 refused words c old new s result a g e = let P : Result (List ℕ) Status → Type 0 = λ r. ImageGiven words old r new in subst P (sym e) (refused-as words c old new s a g)
 
 -- ---- words that are refused, or wait

@@ -1,6 +1,6 @@
 -- What words that are accepted as a command say of the answer, and what words that are not answer.
-use Rattle.std.proofs.Common.{◌≡◌, ◌<◌, ◌^◌, refl, sym, ap, ◌∙◌, ℕ, ◌+◌, Bool, true, false, not, ◌||◌, List, [], ◌∷◌, length, map, Option, Some, None, Result, Ok, Err}
-use Rattle.std.specs.Prelude.{IfOk, codes, if◌then◌else◌}
+use Rattle.std.proofs.Common.{◌≡◌, refl, sym, ap, ◌∙◌, ℕ, ◌+◌, Bool, true, false, not, ◌||◌, List, [], ◌∷◌, map, Option, Some, None, Result, Ok, Err}
+use Rattle.std.specs.Prelude.{codes, if◌then◌else◌}
 use Rattle.std.specs.List.{flat_map, list_any}
 use Rattle.std.proofs.lemmas.List.Folds.{list_any-append}
 use Rattle.lk_report.specs.FileMap.{FileMap}
@@ -20,10 +20,7 @@ use Rattle.lk_inputs.specs.AnswerLaws.{answer_unless}
 use Rattle.lk_inputs.specs.Asked.{has_library, is_library_row}
 use Rattle.lk_inputs.specs.LookUps.{inputs_limit}
 use Rattle.lk_inputs.specs.Refusals.{inputs_refusal}
-use Rattle.lk_inputs.specs.Resolves.{IsCommand}
 use Rattle.lk_inputs.proofs.AnswersReported.{refusals_reported}
-use Rattle.lk_law_records.specs.CommandFits.{CommandFits}
-use Rattle.lk_law_records.proofs.CommandItems.{commands-fit}
 use Rattle.lk_driver.specs.ImageGiven.{IsAccepted}
 use Rattle.lk_driver.specs.Outer.{words_answer}
 
@@ -64,10 +61,6 @@ pub no-library : (c : Command) → words_wait c ≡ None → has_library (words_
 no-library c e = rows-library 1 c.items ∙ either-false (not (is_full c.mode)) (list_any is_library (flat_map words_in c.items)) (unless-some (waits_words c) (status.NotYet waiting.Words) e)
 
 -- ---- the words and what they decide
-
-pub command-fits : (words : List (List ℕ)) (result : Result Command Status) → IsCommand words result → length words < 2 ^ 30 → IfOk result (λ c. CommandFits c)
-command-fits words (Ok c) is short = commands-fit words c is short
-command-fits words (Err s) is short = tt
 
 pub output_of_command : (words : List (List ℕ)) (c : Command) → grammar words ≡ Ok c → output_of_words words ≡ c.output
 unfolding output_of_words

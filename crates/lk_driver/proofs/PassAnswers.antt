@@ -1,5 +1,5 @@
--- What a pass of a link reports is lk_model's answer.
-use Rattle.std.proofs.Common.{◌≡◌, ◌≤◌, ◌^◌, refl, sym, ap, ◌∙◌, ℕ, Bool, true, false, List, length, Option, Some, None, Ok, Err}
+-- The answer of each pass of a link is lk_model's.
+use Rattle.std.proofs.Common.{◌≡◌, ◌≤◌, ◌^◌, refl, sym, ap, ◌∙◌, ℕ, nat_lt, Bool, true, false, List, length, Option, Some, None, Ok, Err}
 use Rattle.std.specs.Prelude.{if◌then◌else◌}
 use Rattle.lk_report.specs.declared.causes.OptionRecord.{OptionRecord}
 use Rattle.lk_report.specs.declared.faults.Fault.{Fault}
@@ -16,6 +16,9 @@ use Rattle.lk_model.specs.ResolveFaults.{name_count, resolve_faults}
 use Rattle.lk_model.specs.Resolving.{resolve}
 use Rattle.lk_model.specs.Segments.{program_headers}
 use Rattle.lk_model.specs.Views.{Input, Resolved}
+use Rattle.lk_model.specs.LayoutStatuses.{layout_status}
+use Rattle.lk_model.specs.declared.layouts.LayoutFault.{LayoutFault}
+use Rattle.lk_model.specs.declared.layouts.LayoutFault.TheVariants as layout
 use Rattle.lk_model.specs.declared.layouts.Placement.{Placement}
 use Rattle.lk_model.proofs.LimitsExceeded.{above}
 use Rattle.lk_model.proofs.LimitsExceeded.{below}
@@ -23,8 +26,17 @@ use Rattle.lk_resolve.specs.Given.{found_in}
 use Rattle.lk_inputs.specs.AnswerLaws.{answer_unless, scanned_answer}
 use Rattle.lk_inputs.proofs.AnswersReported.{faults_reported_of, names_counted, some_faults}
 use Rattle.lk_resolve.specs.Settling.{SettleGives, ResolutionValue, most_names}
+use Rattle.lk_resolve.specs.SettleStatuses.{settle_status}
+use Rattle.lk_resolve.specs.declared.settle_faults.SettleFault.{SettleFault}
 use Rattle.lk_resolve.specs.declared.settle_faults.SettleFault.TheVariants as settle
-use Rattle.lk_driver.specs.LinkPasses.{needs_answer}
+use Rattle.lk_inputs.specs.declared.input_files.InputFile.{InputFile}
+use Rattle.lk_layout.specs.Layouts.{LayoutGives}
+use Rattle.lk_scan.specs.ScanStatuses.{scan_status}
+use Rattle.lk_scan.specs.declared.scans.ScanFailure.{ScanFailure}
+use Rattle.lk_scan.specs.declared.scans.ScanFailure.TheVariants as scan
+use Rattle.lk_scan_inputs.specs.Scans.{InputsScanned}
+use Rattle.lk_scan_inputs.specs.declared.link_scanning.ScannedInputs.{ScannedInputs}
+use Rattle.lk_driver.specs.LinkPasses.{PlaceAnswers, ResolutionAnswers, ScanAnswers, needs_answer}
 
 -- ---- names
 
@@ -39,19 +51,36 @@ few_names : (options : OptionRecord) (xs : List Input) → length (found_in opti
 few_names options xs few =
     ap (limit_fault limit.Names (2 ^ 20)) (names_counted options xs) ∙ below limit.Names (2 ^ 20) (length (found_in options.entry xs).names) few
 
-pub resolution_goes_on : (options : OptionRecord) (xs : List Input) (resolution : ResolutionValue) → SettleGives (found_in options.entry xs) (Ok resolution) → resolved_answer (resolve options xs) ≡ scanned_answer (resolve options xs)
+resolution_goes_on : (options : OptionRecord) (xs : List Input) (resolution : ResolutionValue) → SettleGives (found_in options.entry xs) (Ok resolution) → resolved_answer (resolve options xs) ≡ scanned_answer (resolve options xs)
 resolution_goes_on options xs resolution h = answer_by (resolve options xs) None None (few_names options xs h.0) (ap fault_status (faults_reported_of options xs ∙ h.1))
 
-pub names_at_fault : (options : OptionRecord) (xs : List Input) (faults : List Fault) → SettleGives (found_in options.entry xs) (Err (settle.Faults faults)) → resolved_answer (resolve options xs) ≡ status.LinkError faults
+names_at_fault : (options : OptionRecord) (xs : List Input) (faults : List Fault) → SettleGives (found_in options.entry xs) (Err (settle.Faults faults)) → resolved_answer (resolve options xs) ≡ status.LinkError faults
 names_at_fault options xs faults h =
     answer_by (resolve options xs) None (Some (status.LinkError faults)) (few_names options xs h.0)
     (ap fault_status (faults_reported_of options xs ∙ sym h.1) ∙ some_faults faults h.2)
 
-pub too_many_names : (options : OptionRecord) (xs : List Input) (l : LimitFault) → SettleGives (found_in options.entry xs) (Err (settle.Limit l)) → resolved_answer (resolve options xs) ≡ status.Limit l
+too_many_names : (options : OptionRecord) (xs : List Input) (l : LimitFault) → SettleGives (found_in options.entry xs) (Err (settle.Limit l)) → resolved_answer (resolve options xs) ≡ status.Limit l
 too_many_names options xs l h =
     let n : ℕ = length (found_in options.entry xs).names in
     answer_by (resolve options xs) (Some (status.Limit l)) (fault_status (resolve_faults (resolve options xs)))
     (ap (limit_fault limit.Names (2 ^ 20)) (names_counted options xs) ∙ above limit.Names (2 ^ 20) n h.0 ∙ ap (λ (m : LimitFault). Some (status.Limit m)) (sym h.1)) refl
+
+pub resolution_answers : (options : OptionRecord) (xs : List Input) (resolution : ResolutionValue) → SettleGives (found_in options.entry xs) (Ok resolution) → ResolutionAnswers options xs (Ok resolution)
+resolution_answers options xs resolution h = (resolution_goes_on options xs resolution h, h.2)
+
+pub names_refused : (options : OptionRecord) (xs : List Input) (f : SettleFault) → SettleGives (found_in options.entry xs) (Err f) → ResolutionAnswers options xs (Err (settle_status f))
+names_refused options xs (settle.Faults faults) h = names_at_fault options xs faults h
+names_refused options xs (settle.Limit l) h = too_many_names options xs l h
+names_refused options xs settle.NoMemory h = tt
+
+-- ---- references
+
+pub scan_goes_on : (r : Resolved) (files : List InputFile) (scanned : ScannedInputs) → InputsScanned r files (Ok scanned) → ScanAnswers r files (Ok scanned)
+scan_goes_on r files scanned h = (ap (λ (o : Option Status). answer_unless o (needs_answer r)) (ap fault_status h.0), h)
+
+pub scan_refused : (r : Resolved) (files : List InputFile) (f : ScanFailure) → InputsScanned r files (Err f) → ScanAnswers r files (Err (scan_status f))
+scan_refused r files (scan.Faults faults) h = ap (λ (o : Option Status). answer_unless o (needs_answer r)) (ap fault_status (sym h.1) ∙ some_faults faults h.0)
+scan_refused r files scan.NoMemory h = tt
 
 -- ---- needs
 
@@ -79,3 +108,22 @@ pub placed_is :
     → placed_answer r place
     ≡ placed_by (limit_fault limit.Sections 60000 (section_count place)) (limit_fault limit.Memory (2 ^ 31) (memory_of place)) (limit_fault limit.Headers 64 (length (program_headers place (exec_stack_of r)))) (limit_fault limit.Image (2 ^ 29) (image_length r place)) (fault_status (overflow_faults r place))
 placed_is r place = refl
+
+limited :
+    (a b : Bool) (x y l : LimitFault) (headers image faults : Option Status)
+    → (let o : Option LimitFault = if a then Some x else (if b then Some y else None) in o) ≡ Some l
+    → placed_by (if a then Some (status.Limit x) else None) (if b then Some (status.Limit y) else None) headers image faults ≡ status.Limit l
+limited true b x y l headers image faults h = ap (λ (m : LimitFault). status.Limit m) (let e : x ≡ l = cc in e)
+limited false true x y l headers image faults h = ap (λ (m : LimitFault). status.Limit m) (let e : y ≡ l = cc in e)
+limited false false x y l headers image faults h = absurd (cc)
+
+pub place_refused : (r : Resolved) (f : LayoutFault) → LayoutGives r (Err f) → PlaceAnswers r (Err (layout_status f))
+place_refused r (layout.Limit l) h =
+    let place : Placement = full_place r in
+    placed_is r place
+    ∙ limited (nat_lt 60000 (section_count place)) (nat_lt (2 ^ 31) (memory_of place)) (record { which = limit.Sections; number = section_count place }) (record { which = limit.Memory; number = memory_of place }) l
+    (limit_fault limit.Headers 64 (length (program_headers place (exec_stack_of r)))) (limit_fault limit.Image (2 ^ 29) (image_length r place)) (fault_status (overflow_faults r place)) h
+place_refused r layout.NoMemory h = tt
+
+pub place_goes_on : (r : Resolved) (place : Placement) → LayoutGives r (Ok place) → PlaceAnswers r (Ok place)
+place_goes_on r place h = (refl, record { full = h.2; sections = h.0; memory = h.1 })

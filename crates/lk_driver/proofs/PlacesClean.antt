@@ -1,4 +1,4 @@
--- No place where an input of a command is looked for holds a zero byte.
+-- No place where an input of a command is looked for has a zero byte.
 use Rattle.std.proofs.Common.{◌≡◌, refl, ◌∙◌, ℕ, ◌==◌, Bool, true, false, if◌then◌else◌, List, [], ◌∷◌, ◌++◌, map, Some}
 use Rattle.std.specs.Prelude.{codes}
 use Rattle.std.specs.List.{AllByRecursion}

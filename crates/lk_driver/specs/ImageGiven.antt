@@ -1,21 +1,12 @@
 -- This project's own: what the passes before the commit answer, and what they do to the files.
-use Rattle.std.specs.Prelude.{◌≡◌, ◌≤◌, ℕ, false, Contains, IsSome, length, List, Option, Some, None, Result, Ok, Err, IfOk, IfSome, codes}
-use Rattle.std.specs.List.{AllByRecursion}
-use Rattle.lk_report.specs.FileMap.{FileMap}
+use Rattle.std.specs.Prelude.{◌≡◌, ℕ, List, Option, Some, None, Result, Ok, Err, IfOk, IfSome, codes}
 use Rattle.lk_report.specs.declared.statuses.Status.{Status}
 use Rattle.lk_report.specs.declared.statuses.Status.TheVariants as status
 use Rattle.lk_report.specs.declared.statuses.Waiting.TheVariants as waiting
 use Rattle.lk_model.specs.Answers.{full_link, words_wait}
 use Rattle.lk_model.specs.Grammar.{grammar}
-use Rattle.lk_model.specs.Inputs.{input_words}
 use Rattle.lk_model.specs.declared.commands.Command.{Command}
 use Rattle.lk_outside.specs.FilesState.{FilesState}
-use Rattle.lk_inputs.specs.Asked.{AreSound, CommandAsked, IsOfReading, LimitFirst, StatusLast, StatusMisses, StatusNamed, all_places, has_library}
-use Rattle.lk_inputs.specs.LookUps.{inputs_limit}
-use Rattle.lk_inputs.specs.Refusals.{CommandInputs}
-use Rattle.lk_inputs.specs.FileAnswers.{StatusCounts, known_map}
-use Rattle.lk_inputs.specs.declared.input_files.InputFile.{InputFile}
-use Rattle.lk_inputs.specs.declared.inputs.Inputs.{Inputs}
 use Rattle.lk_law_records.specs.CommandFits.{CommandFits}
 use Rattle.lk_driver.specs.Outer.{FilesKept, IsDue, IsImage, IsOfInputs, IsFirstRefusal, MissingReported, ReadFaultReported, words_answer}
 
@@ -59,7 +50,7 @@ ImageFirst None old result new = IsOfInputs (status_of result)
 ImageFirst (Some due) old (Ok image) new = ⊥
 ImageFirst (Some due) old (Err s) new = IsFirstRefusal due s × (new ≡ old)
 
--- where the files tell their map, an image is one of the words' command
+-- where the files report their map, an image is one of the words' command
 abbrev pub ImageReported : List (List ℕ) → FilesState → Result (List ℕ) Status → Type 0
 ImageReported words old (Ok image) = IfSome old.known (λ k. IsImage words k.map image)
 ImageReported words old (Err s) = Unit {0}
@@ -73,21 +64,3 @@ pub record ImageGiven (words : List (List ℕ)) (old : FilesState) (result : Res
   pub fault : ReadFaultReported words old (status_of result) new
   pub missing : MissingReported old (status_of result) new
   pub kept : FilesKept (words_answer words) words old (status_of result) new
-
--- ---- the inputs that are read
-
--- what reading the inputs of a command answers, and what it does to the files
-pub record ReadGiven (c : Command) (old : FilesState) (result : Result Inputs Status) (new : FilesState) : Type 0 where
-  pub map : known_map new ≡ known_map old
-  pub reported : (there : FileMap) → known_map old ≡ Some there → CommandInputs (inputs_limit c) c there result
-  pub faults : StatusCounts old result new
-  pub limit : IsSome (inputs_limit c) → new ≡ old
-  pub asked : (there : FileMap) → known_map old ≡ Some there → CommandAsked c there old result new
-  pub last : StatusLast old result new
-  pub misses : has_library (input_words c) ≡ false → StatusMisses old result new
-  pub named : StatusNamed (all_places c) result
-  pub kinds : IsOfReading c result
-  pub first : LimitFirst (inputs_limit c) result
-  pub sound : IfOk result AreSound
-  pub placed : IfOk result (λ inputs. AllByRecursion (λ (file : InputFile). Contains (all_places c) file.name.path) inputs.files)
-  pub few : IfOk result (λ inputs. length inputs.files ≤ 4096)

@@ -3,7 +3,5 @@ pub mod ReadInputs
 pub mod Committing
 pub mod Outer
 pub mod LinkPasses
-pub mod ScannedLinks
 pub mod ImageGiven
-pub mod FileBytes
 pub mod LinkStatuses

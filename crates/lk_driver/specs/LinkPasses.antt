@@ -36,8 +36,8 @@ abbrev pub needs_answer : Resolved → Status
 needs_answer r = answer_unless (needs_wait r) (placed_answer r (full_place r))
 
 -- what the resolution of inputs answers
-abbrev pub SettleAnswers : OptionRecord → List Input → Result ResolutionValue Status → Type 0
-SettleAnswers options xs result =
+abbrev pub ResolutionAnswers : OptionRecord → List Input → Result ResolutionValue Status → Type 0
+ResolutionAnswers options xs result =
     PassGives (resolved_answer (resolve options xs)) (scanned_answer (resolve options xs)) (λ (resolution : ResolutionValue). IsFound resolution (found_in options.entry xs)) result
 
 -- what the scan of the references of files answers

@@ -8,7 +8,7 @@ use Rattle.lk_report.specs.declared.statuses.Status.TheVariants as status
 use Rattle.lk_report.specs.declared.statuses.Waiting.TheVariants as waiting
 use Rattle.lk_inputs.specs.Asked.{is_missing}
 
--- a link that is done, faults of which none reports of a missing input, a form that waits, a limit other than that on
+-- a link that is done, faults of which none reports a missing input, a form that waits, a limit other than that on
 -- the number of inputs
 abbrev pub IsLinkStatus : Status → Type 0
 IsLinkStatus (status.Done (outcome.Full None)) = Unit {0}

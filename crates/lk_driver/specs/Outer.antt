@@ -1,6 +1,6 @@
--- What a link may answer and what it does to the outside (this project's own): the clauses of the top
--- call, over the input files and the output device before and after it. The link itself is said by the
--- general definitions: `static_answer` and `IsFullLink`.
+-- This project's own: what a link may answer and what it does to the outside. These are the clauses of the top call,
+-- over the input files and the output device before and after it; the link itself is said by the general definitions
+-- `static_answer` and `IsFullLink`.
 use Rattle.std.specs.Prelude.{◌≡◌, ℕ, List, Option, Some, None, Ok, Err, IfSome, MatchOption, Contains}
 use Rattle.std.specs.List.{list_any}
 use Rattle.lk_report.specs.FileMap.{FileMap}
@@ -56,7 +56,7 @@ AnswerIs status.DeviceFault due = due ≡ full_link
 AnswerIs status.NoMemory due = Unit {0}
 AnswerIs s due = s ≡ due
 
--- where the files tell their map, the answer is the one that the definitions give of words and map
+-- where the files report their map, the answer is the one that the definitions give of words and map
 abbrev pub IsDue : List (List ℕ) → FilesState → Status → Type 0
 IsDue words files s = IfSome files.known (λ k. AnswerIs s (static_answer words k.map))
 
@@ -64,8 +64,8 @@ IsDue words files s = IfSome files.known (λ k. AnswerIs s (static_answer words 
 abbrev pub IsImage : List (List ℕ) → FileMap → List ℕ → Type 0
 IsImage words files image = MatchOption (accepted_command words) ⊥ (λ c. IsFullLink c files image)
 
--- a link that is done placed everything anew, and leaves an image of the command and the files, where
--- both tell what they hold
+-- a link that is done placed everything anew, and leaves an image of the command and the files, where the files
+-- report their map and the device its bytes
 abbrev pub DoneLeaves : List (List ℕ) → FilesState → Status → Disk → Type 0
 DoneLeaves words files (status.Done (outcome.Full None)) disk =
     IfSome files.known (λ k. IfSome disk.stored (λ s. IsImage words k.map s.bytes))

@@ -11,7 +11,7 @@ use Rattle.lk_law_records.specs.Recordable.{OptionsFit, has_zero}
 use Rattle.lk_records.specs.Occurrences.{OccurrencesAreRight}
 
 -- these are the files and summaries of inputs, which are objects without a fault; no text of theirs or of the
--- options holds a zero byte, and there are not too many of them
+-- options has a zero byte, and there are at most 4,096 of them
 pub record AreReadInputs (options : OptionRecord) (xs : List Input) (inputs : Inputs) : Type 0 where
   pub given : AreInputs xs inputs
   pub objects : AreObjects xs

@@ -13,10 +13,7 @@
 #![tactic(auto)]
 
 mod commits;
-mod file_numbers;
 mod link_needs;
-mod link_passes;
-mod links;
 mod run;
 mod words;
 

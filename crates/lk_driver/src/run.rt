@@ -1,19 +1,22 @@
-//! The top call: the words, the inputs, their link, the commit, and the status that is said.
+//! The top call, and the passes of a link: words, command, inputs, resolution, scan, needs, placement, image, commit,
+//! status.
 
-ghost use Rattle.std.specs.Prelude.{◌≡◌, ℕ, List};
+ghost use Rattle.std.specs.Prelude.{◌≡◌};
 ghost use Rattle.lk_report.specs.Spoken.{Says};
 ghost use Rattle.lk_report.specs.Texts.{text_of};
 ghost use Rattle.lk_driver.specs.Committing.{IsCommitted};
-ghost use Rattle.lk_driver.specs.ImageGiven.{ImageGiven, IsAccepted};
+ghost use Rattle.lk_driver.specs.ImageGiven.{ImageGiven};
 ghost use Rattle.lk_driver.specs.Outer.{IsDue, DoneLeaves, ReadFaultReported, DeviceFaultReported, MissingReported, DeviceKept, FilesKept, WordsFirst, words_answer};
 
 use crate::commits::commit;
-use crate::links::link_inputs;
+use crate::link_needs::check_needs;
 use crate::words::accepted_command;
-use lk_inputs::read_command;
-use lk_model::commands::Command;
+use lk_image::link_image;
+use lk_inputs::{Inputs, read_command, resolve_inputs};
+use lk_layout::full_layout;
 use lk_outside::{Answer, Device, Files, Turnstile};
 use lk_report::{Bytes, NameList, Outcome, Sink, Status, say};
+use lk_scan_inputs::{ScannedInputs, scan_inputs};
 use std::alloc::Global;
 
 /// Links what the words ask for and says the status; always returns.
@@ -42,52 +45,48 @@ pub fn run_alone<F: Files, D: Device, S: Sink, G: Turnstile>(
     ensures files_kept { FilesKept (words_answer words.now) words.now (F.state files.old) result (F.state files.new) }
     ensures said { Says (S.spoken says.old) (S.spoken says.new) (text_of result) }
 {
-    let status = link(alloc, words, files, out);
-    say(&status, says);
-    status
-}
-
-/// Links what the words ask for.
-fn link<F: Files, D: Device>(alloc: Global, words: &NameList, files: &mut F, out: &mut D) -> Status
-    ensures words_first { WordsFirst (words_answer words.now) (F.state files.old) (D.disk out.old) result (F.state files.new) (D.disk out.new) }
-    ensures answer { IsDue words.now (F.state files.old) result }
-    ensures done { DoneLeaves words.now (F.state files.old) result (D.disk out.new) }
-    ensures read_fault { ReadFaultReported words.now (F.state files.old) result (F.state files.new) }
-    ensures device_fault { DeviceFaultReported (D.disk out.old) result (D.disk out.new) }
-    ensures missing { MissingReported (F.state files.old) result (F.state files.new) }
-    ensures untouched { DeviceKept (D.disk out.old) result (D.disk out.new) }
-    ensures files_kept { FilesKept (words_answer words.now) words.now (F.state files.old) result (F.state files.new) }
-{
     match image_of_words(alloc, words, files) {
-        Ok(image) => commit_image(out, &image),
-        Err(status) => status,
+        Ok(image) => say_status(commit_image(out, &image), says),
+        Err(status) => say_status(status, says),
     }
 }
 
-/// The image of what the words ask for.
+/// The image of the link that the words ask for: its passes, one after another.
 ///
 /// # Errors
-/// The first faulty word; words that are not built yet; those of `image_of_command`.
+/// The first refusal of a pass, in the order of the passes; out of memory at any of them.
 fn image_of_words<F: Files>(alloc: Global, words: &NameList, files: &mut F) -> Result<Bytes, Status>
     ensures { ImageGiven words.now (F.state files.old) result (F.state files.new) }
 {
     let command = accepted_command(alloc, words)?;
-    image_of_command(alloc, &command, files)
-}
-
-/// The image of a command of which a link can be begun.
-///
-/// # Errors
-/// Those of `read_command`, then those of `link_inputs`.
-fn image_of_command<F: Files>(
-    alloc: Global,
-    command: &Command,
-    files: &mut F,
-) -> Result<Bytes, Status>
-    ensures { (words : List (List ℕ)) → IsAccepted words command.now → ImageGiven words (F.state files.old) result (F.state files.new) }
-{
-    let inputs = read_command(alloc, command, files)?;
-    link_inputs(alloc, &command.options, inputs)
+    let options = &command.options;
+    let inputs = read_command(alloc, &command, files)?;
+    let resolution = resolve_inputs(alloc, &options.entry, &inputs)?;
+    let Inputs {
+        files: read,
+        summaries,
+    } = inputs;
+    let scanned = scan_inputs(alloc, read, summaries.as_slice(), &resolution)?;
+    let ScannedInputs {
+        names,
+        objects,
+        needs,
+        references,
+    } = scanned;
+    let names = names.as_slice();
+    let objects = objects.as_slice();
+    check_needs(alloc, &needs, names)?;
+    let placement = full_layout(alloc, &resolution, &summaries, &needs, options)?;
+    link_image(
+        alloc,
+        options,
+        names,
+        summaries,
+        &resolution,
+        objects,
+        references,
+        placement,
+    )
 }
 
 /// Puts an image on the output device.
@@ -98,4 +97,13 @@ fn commit_image<D: Device>(out: &mut D, image: &Bytes) -> Status
         Answer::Done => Status::Done(Outcome::Full(None)),
         Answer::Failed => Status::DeviceFault,
     }
+}
+
+/// Says a status, and returns it.
+fn say_status<S: Sink>(status: Status, says: &mut S) -> Status
+    ensures same { result ≡ status }
+    ensures said { Says (S.spoken says.old) (S.spoken says.new) (text_of status) }
+{
+    say(&status, says);
+    status
 }

@@ -4,32 +4,12 @@ ghost use Rattle.std.specs.Prelude.{◌≡◌, IfOk};
 ghost use Rattle.std.specs.List.{list_any};
 ghost use Rattle.lk_model.specs.Answers.{is_full as full_mode, is_library, waits_words, words_in};
 ghost use Rattle.lk_model.specs.Grammar.{output_of_words};
-ghost use Rattle.lk_inputs.specs.Resolves.{IsCommand};
-ghost use Rattle.lk_law_records.specs.CommandFits.{CommandFits};
 ghost use Rattle.lk_driver.specs.ImageGiven.{OutputUnless, WordsGive};
 
 use lk_inputs::command_of;
 use lk_model::commands::{Command, Item, Mode, Word};
 use lk_report::{Name, NameList, NoMemory, Status, Waiting};
 use std::alloc::Global;
-
-/// A command of so many words and more, 2^30, is answered as out of memory: its numbers have no room in what an
-/// image records.
-const MOST_WORDS: usize = 0x4000_0000;
-
-/// The command that words are.
-///
-/// # Errors
-/// The first faulty word; out of memory.
-fn command_of_words(alloc: Global, words: &NameList) -> Result<Command, Status>
-    ensures command { IsCommand words.now result }
-    ensures fits { IfOk result (λ command. CommandFits command) }
-{
-    if words.as_slice().len() >= MOST_WORDS {
-        return Err(Status::NoMemory);
-    }
-    command_of(alloc, words)
-}
 
 /// Whether everything is to be made anew.
 fn is_full(mode: Mode) -> bool
@@ -77,7 +57,7 @@ fn waits(command: &Command) -> bool
 pub fn accepted_command(alloc: Global, words: &NameList) -> Result<Command, Status>
     ensures { WordsGive words.now result }
 {
-    let command = command_of_words(alloc, words)?;
+    let command = command_of(alloc, words)?;
     if waits(&command) {
         return Err(Status::NotYet(Waiting::Words));
     }
@@ -89,7 +69,7 @@ pub fn accepted_command(alloc: Global, words: &NameList) -> Result<Command, Stat
 pub fn output_of(alloc: Global, words: &NameList) -> Result<Name, NoMemory>
     ensures { IfOk result (λ path. path ≡ output_of_words words.now) }
 {
-    match command_of_words(alloc, words) {
+    match command_of(alloc, words) {
         Ok(command) => command.output.copy(alloc),
         Err(status) => output_unless(alloc, &status),
     }

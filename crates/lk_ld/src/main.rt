@@ -12,7 +12,7 @@ mod reasons;
 use arguments::{Arguments, arguments_of};
 use lk_driver::{output_of, run_alone};
 use lk_outside::{FreeTurnstile, HostDevice, HostFiles, HostSink};
-use lk_report::{Name, NameList, NoMemory, Status, Waiting, say};
+use lk_report::{NameList, Status, Waiting, say};
 use notices::notice_of;
 use reasons::{Reason, reason_of, text_of};
 use std::env;
@@ -29,16 +29,11 @@ fn main(rt: HostRuntime) -> ExitCode {
     }
 }
 
-/// Links what the words ask for.
+/// Links what the words ask for, to the output that they name.
 fn link(rt: HostRuntime, words: &NameList) -> ExitCode {
-    match output_of(rt.alloc(), words) {
-        Ok(output) => link_to(rt, words, &output),
-        Err(NoMemory) => end(rt, &Status::NoMemory),
-    }
-}
-
-/// Links what the words ask for to the output that they name.
-fn link_to(rt: HostRuntime, words: &NameList, output: &Name) -> ExitCode {
+    let Ok(output) = output_of(rt.alloc(), words) else {
+        return end(rt, &Status::NoMemory);
+    };
     let Ok(path) = output.copy(rt.alloc()) else {
         return end(rt, &Status::NoMemory);
     };
@@ -55,7 +50,7 @@ fn link_to(rt: HostRuntime, words: &NameList, output: &Name) -> ExitCode {
     );
     say_reason(
         rt,
-        reason_of(&status, output, files.last_error(), out.last_error()),
+        reason_of(&status, &output, files.last_error(), out.last_error()),
     );
     ExitCode::from(status.exit_code())
 }

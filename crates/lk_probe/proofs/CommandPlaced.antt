@@ -9,13 +9,14 @@ use Rattle.lk_model.specs.Inputs.{inputs_of}
 use Rattle.lk_model.specs.Links.{resolved_of}
 use Rattle.lk_model.specs.Resolving.{resolve}
 use Rattle.lk_model.specs.Views.{Input}
-use Rattle.lk_scan_inputs.specs.ObjectLaws.{UnrefusedAreObjects}
+use Rattle.lk_outside.specs.FilesState.{FilesState}
 use Rattle.lk_scan_inputs.specs.Objects.{AreObjects}
+use Rattle.lk_scan_inputs.proofs.UnrefusedObjects.{unrefused_are_objects}
 use Rattle.lk_inputs.specs.declared.inputs.Inputs.{Inputs}
+use Rattle.lk_inputs.specs.FileAnswers.{StatusCounts}
 use Rattle.lk_inputs.specs.LookUps.{inputs_limit}
 use Rattle.lk_inputs.specs.Refusals.{AreInputs, CommandInputs, IsRefusal, inputs_refusal}
-use Rattle.lk_probe.specs.Laying.{CommandLaid, InputsLaid, command_refusal, layout_refusal, refusal_or, unplaced_status}
-use Rattle.lk_probe.specs.declared.placing.Unplaced.{Unplaced}
+use Rattle.lk_probe.specs.Laying.{CommandLaid, InputsLaid, IsOfLayout, command_refusal, layout_refusal, refusal_or}
 use Rattle.lk_probe.proofs.InputsPlaced.{first_reported, later_reported}
 
 -- ---- inputs that are refused
@@ -47,21 +48,29 @@ read_inputs : (o : Option Status) (command : Command) (there : FileMap) (inputs 
 read_inputs None command there inputs h = (refl, h.0, h.1)
 read_inputs (Some due) command there inputs h = absurd h
 
-pub laid_command : UnrefusedAreObjects → (command : Command) (there : FileMap) (inputs : Inputs) (r : Result Placement Unplaced) (place : Placement) → CommandInputs (inputs_limit command) command there (Ok inputs)
-    → ((xs : List Input) → AreInputs xs inputs → AreObjects xs → InputsLaid (resolve command.options xs) r) → r ≡ Ok place → CommandLaid command there (Ok place)
-unfolding command_refusal resolved_of
-laid_command law command there inputs r place h laid is =
-    let read : (inputs_limit command ≡ None) × (inputs_refusal command there ≡ None) × AreInputs (inputs_of command there) inputs = read_inputs (inputs_limit command) command there inputs h in
-    let at : InputsLaid (resolved_of command there) (Ok place) = subst (InputsLaid (resolved_of command there)) is (laid (inputs_of command there) read.2 (law command there read.1)) in (
-      (λ i. refusal_or (read.0 i) (refusal_or (read.1 i) (at.0 i))),
-      at.1,
-    )
+laid_at : (command : Command) (there : FileMap) (r : Result Placement Status) → inputs_limit command ≡ None → inputs_refusal command there ≡ None → InputsLaid (resolved_of command there) r → CommandLaid command there r
+unfolding command_refusal
+laid_at command there (Ok place) few given at = ((λ i. refusal_or (few i) (refusal_or (given i) (at.0 i))), at.1)
+laid_at command there (Err s) few given at =
+    later_reported s (inputs_limit command) (refusal_or (inputs_refusal command there) (layout_refusal (resolved_of command there))) few
+    (later_reported s (inputs_refusal command there) (layout_refusal (resolved_of command there)) given at)
 
-pub unlaid_command : UnrefusedAreObjects → (command : Command) (there : FileMap) (inputs : Inputs) (r : Result Placement Unplaced) (u : Unplaced) (s : Status) → CommandInputs (inputs_limit command) command there (Ok inputs)
-    → ((xs : List Input) → AreInputs xs inputs → AreObjects xs → InputsLaid (resolve command.options xs) r) → r ≡ Err u → s ≡ unplaced_status u → CommandLaid command there (Err s)
-unfolding command_refusal resolved_of
-unlaid_command law command there inputs r u s h laid is reported =
+pub command_laid : (command : Command) (there : FileMap) (inputs : Inputs) (r : Result Placement Status) → CommandInputs (inputs_limit command) command there (Ok inputs)
+    → ((xs : List Input) → AreInputs xs inputs → AreObjects xs → InputsLaid (resolve command.options xs) r) → CommandLaid command there r
+unfolding resolved_of
+command_laid command there inputs r h laid =
     let read : (inputs_limit command ≡ None) × (inputs_refusal command there ≡ None) × AreInputs (inputs_of command there) inputs = read_inputs (inputs_limit command) command there inputs h in
-    let at : InputsLaid (resolved_of command there) (Err u) = subst (InputsLaid (resolved_of command there)) is (laid (inputs_of command there) read.2 (law command there read.1)) in
-    later_reported s (inputs_limit command) (refusal_or (inputs_refusal command there) (layout_refusal (resolved_of command there))) read.0
-    (later_reported s (inputs_refusal command there) (layout_refusal (resolved_of command there)) read.1 (subst (IsRefusal (layout_refusal (resolved_of command there))) (sym reported) at))
+    laid_at command there r read.0 read.1 (laid (inputs_of command there) read.2 (unrefused_are_objects command there read.1))
+
+-- a layout leaves the count of faults that the reads left
+pub counts_kept : (old new : FilesState) (r : Result Placement Status) → new.faults ≡ old.faults → IsOfLayout r → StatusCounts old r new
+counts_kept old new (Ok place) same kind = same
+counts_kept old new (Err (status.LinkError faults)) same kind = same
+counts_kept old new (Err (status.Limit l)) same kind = same
+counts_kept old new (Err status.NoMemory) same kind = tt
+counts_kept old new (Err (status.Done how)) same kind = absurd kind
+counts_kept old new (Err (status.Usage u)) same kind = absurd kind
+counts_kept old new (Err (status.ReadFault path)) same kind = absurd kind
+counts_kept old new (Err status.DeviceFault) same kind = absurd kind
+counts_kept old new (Err (status.NotUpdated c)) same kind = absurd kind
+counts_kept old new (Err (status.NotYet w)) same kind = absurd kind

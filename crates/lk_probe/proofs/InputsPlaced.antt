@@ -1,4 +1,4 @@
--- What settling, scanning and laying out answer one after another is what is reported of where inputs go.
+-- What the resolution, the scan and the layout answer, one after another, is what is reported of where inputs go.
 use Rattle.std.proofs.Common.{◌≡◌, ◌≤◌, ◌^◌, refl, sym, ap, ◌∙◌, subst, ℕ, nat_lt, Bool, true, false, List, length, map, Option, Some, None, Ok, Err}
 use Rattle.std.specs.Prelude.{if◌then◌else◌, option_map}
 use Rattle.lk_report.specs.declared.causes.OptionRecord.{OptionRecord}
@@ -26,16 +26,16 @@ use Rattle.lk_scan_inputs.specs.Scans.{InputsScanned}
 use Rattle.lk_scan_inputs.specs.declared.link_scanning.ScannedInputs.{ScannedInputs}
 use Rattle.lk_inputs.specs.declared.input_files.InputFile.{InputFile}
 use Rattle.lk_inputs.specs.Refusals.{IsRefusal}
-use Rattle.lk_inputs.specs.Resolves.{settle_status}
 use Rattle.lk_inputs.proofs.AnswersReported.{faults_reported_of, names_counted, some_faults}
+use Rattle.lk_resolve.specs.SettleStatuses.{settle_status}
 use Rattle.lk_resolve.specs.Settling.{SettleGives, ResolutionValue}
 use Rattle.lk_resolve.specs.declared.settle_faults.SettleFault.{SettleFault}
 use Rattle.lk_resolve.specs.declared.settle_faults.SettleFault.TheVariants as settle
 use Rattle.lk_scan.specs.declared.scans.ScanFailure.{ScanFailure}
 use Rattle.lk_scan.specs.declared.scans.ScanFailure.TheVariants as scan
-use Rattle.lk_probe.specs.Laying.{InputsLaid, layout_refusal, layout_status, names_refusal, placement_refusal, refusal_or, scan_status}
-use Rattle.lk_probe.specs.declared.placing.Unplaced.{Unplaced}
-use Rattle.lk_probe.specs.declared.placing.Unplaced.TheVariants as unplaced
+use Rattle.lk_probe.specs.Laying.{InputsLaid, layout_refusal, names_refusal, placement_refusal, refusal_or}
+use Rattle.lk_model.specs.LayoutStatuses.{layout_status}
+use Rattle.lk_scan.specs.ScanStatuses.{scan_status}
 
 -- ---- names
 
@@ -96,30 +96,30 @@ scan_refused r files scan.NoMemory h = tt
 
 -- ---- one after another
 
-pub unresolved_reported : (options : OptionRecord) (xs : List Input) (f : SettleFault) (u : Unplaced) → SettleGives (found_in options.entry xs) (Err f) → u ≡ unplaced.Settling f → InputsLaid (resolve options xs) (Err u)
+pub unresolved_reported : (options : OptionRecord) (xs : List Input) (f : SettleFault) (s : Status) → SettleGives (found_in options.entry xs) (Err f) → s ≡ settle_status f → InputsLaid (resolve options xs) (Err s)
 unfolding layout_refusal
-unresolved_reported options xs f u h e =
+unresolved_reported options xs f s h e =
     let r : Resolved = resolve options xs in
-    subst (λ (v : Unplaced). InputsLaid r (Err v)) (sym e)
+    subst (λ (t : Status). InputsLaid r (Err t)) (sym e)
     (first_reported (settle_status f) (names_refusal r) (refusal_or (fault_status (scan_faults r)) (placement_refusal (full_place r))) (names_refused options xs f h))
 
-pub unscanned_reported : (options : OptionRecord) (xs : List Input) (resolution : ResolutionValue) (files : List InputFile) (f : ScanFailure) (u : Unplaced)
-    → SettleGives (found_in options.entry xs) (Ok resolution) → InputsScanned (resolve options xs) files (Err f) → u ≡ unplaced.Scanning f → InputsLaid (resolve options xs) (Err u)
+pub unscanned_reported : (options : OptionRecord) (xs : List Input) (resolution : ResolutionValue) (files : List InputFile) (f : ScanFailure) (s : Status)
+    → SettleGives (found_in options.entry xs) (Ok resolution) → InputsScanned (resolve options xs) files (Err f) → s ≡ scan_status f → InputsLaid (resolve options xs) (Err s)
 unfolding layout_refusal
-unscanned_reported options xs resolution files f u found h e =
+unscanned_reported options xs resolution files f s found h e =
     let r : Resolved = resolve options xs in
-    subst (λ (v : Unplaced). InputsLaid r (Err v)) (sym e)
+    subst (λ (t : Status). InputsLaid r (Err t)) (sym e)
     (later_reported (scan_status f) (names_refusal r) (refusal_or (fault_status (scan_faults r)) (placement_refusal (full_place r))) (names_sound options xs resolution found)
     (first_reported (scan_status f) (fault_status (scan_faults r)) (placement_refusal (full_place r)) (scan_refused r files f h)))
 
-pub unlaid_reported : (options : OptionRecord) (xs : List Input) (resolution : ResolutionValue) (files : List InputFile) (s : ScannedInputs) (f : LayoutFault) (u : Unplaced)
-    → SettleGives (found_in options.entry xs) (Ok resolution) → InputsScanned (resolve options xs) files (Ok s) → LayoutGives (resolve options xs) (Err f) → u ≡ unplaced.Laying f → InputsLaid (resolve options xs) (Err u)
+pub unlaid_reported : (options : OptionRecord) (xs : List Input) (resolution : ResolutionValue) (files : List InputFile) (scanned : ScannedInputs) (f : LayoutFault) (s : Status)
+    → SettleGives (found_in options.entry xs) (Ok resolution) → InputsScanned (resolve options xs) files (Ok scanned) → LayoutGives (resolve options xs) (Err f) → s ≡ layout_status f → InputsLaid (resolve options xs) (Err s)
 unfolding layout_refusal
-unlaid_reported options xs resolution files s f u found scanned h e =
+unlaid_reported options xs resolution files scanned f s found reported h e =
     let r : Resolved = resolve options xs in
-    subst (λ (v : Unplaced). InputsLaid r (Err v)) (sym e)
+    subst (λ (t : Status). InputsLaid r (Err t)) (sym e)
     (later_reported (layout_status f) (names_refusal r) (refusal_or (fault_status (scan_faults r)) (placement_refusal (full_place r))) (names_sound options xs resolution found)
-    (later_reported (layout_status f) (fault_status (scan_faults r)) (placement_refusal (full_place r)) (ap fault_status scanned.0) (place_refused r f h)))
+    (later_reported (layout_status f) (fault_status (scan_faults r)) (placement_refusal (full_place r)) (ap fault_status reported.0) (place_refused r f h)))
 
 pub laid_reported : (options : OptionRecord) (xs : List Input) (resolution : ResolutionValue) (files : List InputFile) (s : ScannedInputs) (place : Placement)
     → SettleGives (found_in options.entry xs) (Ok resolution) → InputsScanned (resolve options xs) files (Ok s) → LayoutGives (resolve options xs) (Ok place) → InputsLaid (resolve options xs) (Ok place)
@@ -129,7 +129,7 @@ laid_reported options xs resolution files s place found scanned h = (
   h.2,
 )
 
--- what code holds of a link is what resolution finds of its inputs
+-- the resolution, summaries and needs of a link are those of its inputs
 pub inputs_given : (options : OptionRecord) (xs : List Input) (resolution : ResolutionValue) (files : List InputFile) (summaries : List InputSummary) (s : ScannedInputs)
     → summaries ≡ map input_summary xs → SettleGives (found_in options.entry xs) (Ok resolution) → InputsScanned (resolve options xs) files (Ok s) → IsGiven resolution summaries s.needs options xs
 inputs_given options xs resolution files summaries s are found scanned = record { summarized = sym are; found = found.2; needed = sym scanned.1 }

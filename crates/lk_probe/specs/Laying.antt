@@ -8,8 +8,6 @@ use Rattle.lk_report.specs.declared.statuses.LimitKind.TheVariants as limit
 use Rattle.lk_report.specs.declared.statuses.Status.{Status}
 use Rattle.lk_report.specs.declared.statuses.Status.TheVariants as status
 use Rattle.lk_model.specs.declared.commands.Command.{Command}
-use Rattle.lk_model.specs.declared.layouts.LayoutFault.{LayoutFault}
-use Rattle.lk_model.specs.declared.layouts.LayoutFault.TheVariants as layout
 use Rattle.lk_model.specs.declared.layouts.Placement.{Placement}
 use Rattle.lk_model.specs.Answers.{fault_status, limit_fault}
 use Rattle.lk_model.specs.FullPlace.{full_place, memory_of, section_count}
@@ -20,11 +18,6 @@ use Rattle.lk_model.specs.ScanFaults.{scan_faults}
 use Rattle.lk_model.specs.Views.{Resolved}
 use Rattle.lk_inputs.specs.LookUps.{inputs_limit}
 use Rattle.lk_inputs.specs.Refusals.{IsRefusal, inputs_refusal}
-use Rattle.lk_inputs.specs.Resolves.{settle_status}
-use Rattle.lk_scan.specs.declared.scans.ScanFailure.{ScanFailure}
-use Rattle.lk_scan.specs.declared.scans.ScanFailure.TheVariants as scan
-use Rattle.lk_probe.specs.declared.placing.Unplaced.{Unplaced}
-use Rattle.lk_probe.specs.declared.placing.Unplaced.TheVariants as unplaced
 
 -- a refusal, or the next one where there is none
 abbrev pub refusal_or : Option Status → Option Status → Option Status
@@ -40,30 +33,24 @@ placement_refusal place = refusal_or (limit_fault limit.Sections 60000 (section_
 unfoldable pub layout_refusal : Resolved → Option Status
 layout_refusal r = refusal_or (names_refusal r) (refusal_or (fault_status (scan_faults r)) (placement_refusal (full_place r)))
 
--- why inputs that were read have no places
-abbrev pub scan_status : ScanFailure → Status
-scan_status (scan.Faults faults) = status.LinkError faults
-scan_status scan.NoMemory = status.NoMemory
-
-abbrev pub layout_status : LayoutFault → Status
-layout_status (layout.Limit l) = status.Limit l
-layout_status layout.NoMemory = status.NoMemory
-
-abbrev pub unplaced_status : Unplaced → Status
-unplaced_status (unplaced.Settling f) = settle_status f
-unplaced_status (unplaced.Scanning f) = scan_status f
-unplaced_status (unplaced.Laying f) = layout_status f
-
 -- where everything goes of what is resolved, or why it has no places, for which out of memory may be
-abbrev pub InputsLaid : Resolved → Result Placement Unplaced → Type 0
+abbrev pub InputsLaid : Resolved → Result Placement Status → Type 0
 InputsLaid r (Ok place) = (layout_refusal r ≡ None) × (place ≡ full_place r)
-InputsLaid r (Err u) = IsRefusal (layout_refusal r) (unplaced_status u)
+InputsLaid r (Err s) = IsRefusal (layout_refusal r) s
+
+-- resolution, scan and layout answer faults, a limit or out of memory; they read nothing
+abbrev pub IsOfLayout : Result Placement Status → Type 0
+IsOfLayout (Ok place) = Unit {0}
+IsOfLayout (Err (status.LinkError faults)) = Unit {0}
+IsOfLayout (Err (status.Limit l)) = Unit {0}
+IsOfLayout (Err status.NoMemory) = Unit {0}
+IsOfLayout (Err _) = ⊥
 
 -- why a command has no placement
 unfoldable pub command_refusal : Command → FileMap → Option Status
 command_refusal command there = refusal_or (inputs_limit command) (refusal_or (inputs_refusal command there) (layout_refusal (resolved_of command there)))
 
--- what is answered of a command: the full placement, or why there is none, for which a failed read and want
+-- what is answered of a command: the full placement, or why there is none, for which a failed read or out
 -- of memory may be
 abbrev pub CommandLaid : Command → FileMap → Result Placement Status → Type 0
 CommandLaid command there (Ok place) = (command_refusal command there ≡ None) × (place ≡ full_place (resolved_of command there))

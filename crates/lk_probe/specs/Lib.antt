@@ -1,4 +1,5 @@
 pub mod Judging
+pub mod Resolving
 pub mod ResolutionTexts
 pub mod Laying
 pub mod Rows

@@ -6,7 +6,7 @@ use Rattle.lk_report.specs.FileMap.{FileMap}
 use Rattle.lk_report.specs.declared.statuses.Status.{Status}
 use Rattle.lk_report.specs.declared.statuses.Status.TheVariants as status
 use Rattle.lk_resolve.specs.Settling.{ResolutionValue}
-use Rattle.lk_inputs.specs.Resolves.{ResolveGives}
+use Rattle.lk_probe.specs.Resolving.{WordsGive}
 
 -- the line of an input that is added
 abbrev pub added_line : List (List ℕ) → ℕ → List ℕ
@@ -26,6 +26,6 @@ resolution_text resolution =
 -- what is said is the text of what the inputs of the words decide; a status in its place is the one that
 -- they have, or out of memory
 abbrev pub Reports : List (List ℕ) → FileMap → Result (List ℕ) Status → Type 0
-Reports words there (Ok text) = (resolution : ResolutionValue) × ResolveGives words there (Ok resolution) × (text ≡ resolution_text resolution)
+Reports words there (Ok text) = (resolution : ResolutionValue) × WordsGive words there (Ok resolution) × (text ≡ resolution_text resolution)
 Reports words there (Err status.NoMemory) = Unit {0}
-Reports words there (Err s) = ResolveGives words there (Err s)
+Reports words there (Err s) = WordsGive words there (Err s)

@@ -3,17 +3,16 @@
 ghost use Rattle.std.specs.Prelude.{◌≡◌, IsSome, Some};
 ghost use Rattle.lk_report.specs.FileMap.{FileMap};
 ghost use Rattle.lk_inputs.specs.LookUps.{inputs_limit};
-ghost use Rattle.lk_inputs.specs.Resolves.{WordsFirst};
 ghost use Rattle.lk_inputs.specs.FileAnswers.{StatusCounts, known_map};
 ghost use Rattle.lk_probe.specs.Laying.{CommandLaid, WordsLaid};
+ghost use Rattle.lk_probe.specs.Resolving.{WordsFirst};
 
-use crate::placing::{place_inputs, status_of};
+use crate::placing::place_inputs;
 use lk_inputs::{command_of, read_command};
 use lk_model::commands::Command;
 use lk_model::layouts::Placement;
 use lk_outside::Files;
 use lk_report::{NameList, Status};
-use lk_scan_inputs::unrefused_are_objects;
 use std::alloc::Global;
 
 /// Where a link of a command, made anew, puts everything.
@@ -26,12 +25,8 @@ fn lay_out_command<F: Files>(
     ensures faults { StatusCounts (F.state files.old) result (F.state files.new) }
     ensures limit { IsSome (inputs_limit command.now) → F.state files.new ≡ F.state files.old }
 {
-    unrefused_are_objects();
     let inputs = read_command(alloc, command, files)?;
-    match place_inputs(alloc, command, inputs) {
-        Ok(placement) => Ok(placement),
-        Err(unplaced) => Err(status_of(unplaced)),
-    }
+    place_inputs(alloc, command, inputs)
 }
 
 /// Where a link of the command that words are, made anew, puts everything.

@@ -5,8 +5,8 @@ ghost use Rattle.lk_report.specs.FileMap.{FileMap};
 ghost use Rattle.lk_inputs.specs.FileAnswers.{StatusCounts, known_map};
 ghost use Rattle.lk_probe.specs.ResolutionTexts.{Reports, added_line, added_lines, resolution_text};
 
+use crate::resolving::resolve_words;
 use crate::writing::{put, put_number};
-use lk_inputs::resolve_words;
 use lk_outside::Files;
 use lk_report::{Bytes, NameList, NoMemory, Status};
 use lk_resolve::Resolution;
