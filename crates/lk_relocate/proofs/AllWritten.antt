@@ -1,9 +1,9 @@
 -- Where every value fits, the placed pieces that are put into a file are the stretches of the kept pieces, written one
 -- after another.
-use Rattle.std.proofs.Common.{◌≡◌, refl, sym, ap, subst, ◌∙◌, arith, ℕ, ◌+◌, ◌-◌, ◌<◌, ◌≤◌, Bool, true, false, cond, nat_le, List, [], ◌∷◌, ◌++◌, filter, flat_map, fold, length, map, zip, Option, None, Some, slice_get}
+use Rattle.std.proofs.Common.{◌≡◌, refl, sym, ap, ◌∙◌, arith, ℕ, ◌+◌, ◌-◌, ◌<◌, ◌≤◌, Bool, true, false, cond, nat_le, List, [], ◌∷◌, flat_map, fold, length, map, zip, Option, None, Some, slice_get}
 use Rattle.std.proofs.lemmas.Bool.Decides.{nat_tests}
 use Rattle.std.proofs.lemmas.List.Sums.{fold-append}
-use Rattle.std.specs.List.{AllByRecursion, cons_option, filter_map}
+use Rattle.std.specs.List.{AllByRecursion, cons_option}
 use Rattle.lk_report.specs.declared.faults.Fault.{Fault}
 use Rattle.lk_report.specs.declared.faults.Fault.TheVariants as fault
 use Rattle.lk_model.specs.declared.layouts.PieceId.{PieceId}
@@ -31,7 +31,7 @@ use Rattle.lk_relocate.specs.Written.{placed_stretch, stretch_in, written}
 use Rattle.lk_relocate.proofs.KeptInObject.{StoredAs, KeptInObject}
 use Rattle.lk_relocate.proofs.PlacedPieces.{none_kept, none_placed, others_same, piece_same, size_same}
 use Rattle.lk_relocate.proofs.PlacesReported.{filled_is, object_filled, references_are}
-use Rattle.lk_relocate.proofs.ReferencesOnce.{HasOwn, of_kept}
+use Rattle.lk_relocate.proofs.ReferencesOnce.{HasOwn}
 
 -- ---- values that fit
 

@@ -1,5 +1,5 @@
 -- Every kept piece of a link is kept by the object of its input, and the references in its section are its own.
-use Rattle.std.proofs.Common.{◌≡◌, refl, sym, ap, subst, ◌∙◌, ℕ, ◌+◌, ◌<◌, ◌≤◌, ◌==◌, Bool, true, false, cond, List, [], ◌∷◌, ◌++◌, filter, flat_map, length, map, zip, Option, None, Some, option_map, slice_get}
+use Rattle.std.proofs.Common.{◌≡◌, refl, sym, ap, subst, ◌∙◌, ℕ, ◌+◌, ◌<◌, ◌≤◌, ◌==◌, Bool, true, false, cond, List, [], ◌∷◌, ◌++◌, filter, flat_map, length, zip, Option, None, Some, option_map}
 use Rattle.std.specs.List.{AllByRecursion, cons_option, enumerate_from, filter_map}
 use Rattle.lk_report.specs.declared.causes.OptionRecord.{OptionRecord}
 use Rattle.lk_model.specs.declared.layouts.PieceId.{PieceId}
@@ -15,7 +15,6 @@ use Rattle.lk_model.specs.Elf.{elf_of}
 use Rattle.lk_model.specs.Finding.{Found, found_of}
 use Rattle.lk_model.specs.Groups.{is_left, signatures_in, with_claims}
 use Rattle.lk_model.specs.KeptPieces.{copy_piece, kept_sections, name_piece, name_pieces, pieces_left, section_piece}
-use Rattle.lk_model.specs.LinkedBytes.{references_in}
 use Rattle.lk_model.specs.NeedsOf.{needs_of}
 use Rattle.lk_model.specs.Numbered.{Numbered, is_number_in}
 use Rattle.lk_model.specs.Objects.{piece_bytes_in, pieces_in, summary_in}
@@ -30,7 +29,7 @@ use Rattle.lk_relocate.specs.PieceLists.{is_listed}
 use Rattle.lk_relocate.specs.Places.{KnownSection}
 use Rattle.lk_relocate.proofs.Lists.{all_append, all_both, all_mapped}
 use Rattle.lk_relocate.proofs.PiecesOfObjects.{InfoRead, all_listed, infos_read, sections_once}
-use Rattle.lk_relocate.proofs.ReferencesOnce.{HasOnce, HasOwn, all_own, of_kept}
+use Rattle.lk_relocate.proofs.ReferencesOnce.{HasOnce, HasOwn, all_own}
 
 -- ---- what is known of a kept piece
 

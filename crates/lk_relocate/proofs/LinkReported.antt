@@ -1,14 +1,12 @@
 -- What is reported of all placed pieces of a link is lk_model's: its faults, and the stretches of its kept pieces.
-use Rattle.std.proofs.Common.{◌≡◌, refl, sym, ap, subst, ◌∙◌, ℕ, List, [], flat_map, fold, Option}
+use Rattle.std.proofs.Common.{◌≡◌, sym, ap, subst, ◌∙◌, ℕ, List, [], flat_map, fold, Option}
 use Rattle.std.specs.List.{AllByRecursion}
 use Rattle.lk_report.specs.declared.causes.OptionRecord.{OptionRecord}
 use Rattle.lk_report.specs.declared.faults.Fault.{Fault}
-use Rattle.lk_model.specs.declared.layouts.Placement.{Placement}
 use Rattle.lk_model.specs.Overflows.{overflow_faults}
 use Rattle.lk_model.specs.Resolving.{resolve}
-use Rattle.lk_model.specs.Views.{Input, Ref, Resolved}
+use Rattle.lk_model.specs.Views.{Input, Resolved}
 use Rattle.lk_model.proofs.Finding.{references-resolve}
-use Rattle.lk_resolve.specs.Settling.{ResolutionValue}
 use Rattle.lk_symbol_values.specs.SymbolNumbering.{ValueInputs}
 use Rattle.lk_relocate.specs.Faults.{overflows}
 use Rattle.lk_relocate.specs.ObjectsOfInputs.{HoldsObject}
@@ -25,7 +23,7 @@ resolved_references : (options : OptionRecord) (xs : List Input) → (resolve op
 unfolding resolve
 resolved_references options xs = references-resolve options xs ∙ references_by_kept (resolve options xs) (resolve options xs).kept
 
-module _ (resolution : ResolutionValue) (known : ValueInputs) (place : Placement) (objects : List (Option (List ℕ))) (r : Resolved) (linked : IsLinked resolution known place objects r) where
+module _ (known : ValueInputs) (objects : List (Option (List ℕ))) (r : Resolved) (linked : IsLinked known objects r) where
   in_object : AllByRecursion (KeptInObject objects r) r.kept
   in_object =
       let link = linked.link in
@@ -39,18 +37,18 @@ module _ (resolution : ResolutionValue) (known : ValueInputs) (place : Placement
       subst (λ (x : Resolved). x.references ≡ flat_map (of_kept x) x.kept) (sym link.resolved) (resolved_references link.options link.inputs)
 
   -- each placed piece is known
-  pub pieces_known : AllByRecursion (KnownPiece objects r place) place.pieces
-  pieces_known = all_known objects r place place.pieces r.kept linked.link.lawful.kept in_object linked.link.lawful.in_room
+  pub pieces_known : AllByRecursion (KnownPiece objects r known.place) known.place.pieces
+  pieces_known = all_known objects r known.place known.place.pieces r.kept linked.link.lawful.kept in_object linked.link.lawful.in_room
 
   -- the faults of the placed pieces are those of the link
-  pub faults_reported : (faults : List Fault) → faults ≡ overflows r place (placed_references r place.pieces) → faults ≡ overflow_faults r place
+  pub faults_reported : (faults : List Fault) → faults ≡ overflows r known.place (placed_references r known.place.pieces) → faults ≡ overflow_faults r known.place
   faults_reported faults e =
       e
-      ∙ ap (overflows r place) (placed_are_kept r place.pieces r.kept linked.link.lawful.kept ∙ sym references_are)
-      ∙ faults_are r place
+      ∙ ap (overflows r known.place) (placed_are_kept r known.place.pieces r.kept linked.link.lawful.kept ∙ sym references_are)
+      ∙ faults_are r known.place
 
   -- where there are none, the stretches of the kept pieces are written
-  pub stretches_reported : (faults : List Fault) (old new : List ℕ) → faults ≡ overflows r place (placed_references r place.pieces) → new ≡ fold (with_piece r place) old place.pieces → faults ≡ [] → new ≡ written old (piece_stretches r place)
+  pub stretches_reported : (faults : List Fault) (old new : List ℕ) → faults ≡ overflows r known.place (placed_references r known.place.pieces) → new ≡ fold (with_piece r known.place) old known.place.pieces → faults ≡ [] → new ≡ written old (piece_stretches r known.place)
   stretches_reported faults old new e put none =
-      let same : overflows r place r.references ≡ overflows r place (placed_references r place.pieces) = ap (overflows r place) (references_are ∙ sym (placed_are_kept r place.pieces r.kept linked.link.lawful.kept)) in
-      put ∙ pieces_written objects r place old place.pieces r.kept linked.link.lawful.kept in_object (all_fit r place r.references (same ∙ sym e ∙ none))
+      let same : overflows r known.place r.references ≡ overflows r known.place (placed_references r known.place.pieces) = ap (overflows r known.place) (references_are ∙ sym (placed_are_kept r known.place.pieces r.kept linked.link.lawful.kept)) in
+      put ∙ pieces_written objects r known.place old known.place.pieces r.kept linked.link.lawful.kept in_object (all_fit r known.place r.references (same ∙ sym e ∙ none))

@@ -1,31 +1,28 @@
 -- A placed piece is put into the file, or there is nothing to put.
-use Rattle.std.proofs.Common.{◌≡◌, refl, sym, ap, subst, ◌∙◌, arith, ℕ, nat_eq, ◌+◌, ◌-◌, ◌<◌, ◌≤◌, Bool, true, false, cond, IsTrue, ◌||◌, List, [], ◌∷◌, ◌++◌, drop, fold, get_or, length, map, Option, None, Some, slice_get}
+use Rattle.std.proofs.Common.{◌≡◌, refl, sym, ap, subst, ◌∙◌, arith, ℕ, nat_eq, ◌+◌, ◌<◌, ◌≤◌, Bool, true, false, IsTrue, ◌||◌, List, [], ◌∷◌, ◌++◌, drop, fold, get_or, length, Option, None, Some}
 use Rattle.std.proofs.lemmas.Bool.Decides.{nat_tests}
 use Rattle.std.proofs.lemmas.List.{append-nil, append_assoc, drop_all, drop_more}
 use Rattle.std.proofs.lemmas.List.Elements.{filter_map-append, recursion_from_All}
-use Rattle.std.specs.List.{AllByRecursion, list_any}
+use Rattle.std.specs.List.{AllByRecursion}
 use Rattle.lk_report.specs.declared.faults.Fault.{Fault}
 use Rattle.lk_model.specs.declared.layouts.PieceId.{PieceId}
 use Rattle.lk_model.specs.declared.layouts.PieceId.TheVariants as id
 use Rattle.lk_model.specs.declared.layouts.PieceRow.{PieceRow}
 use Rattle.lk_model.specs.declared.layouts.Placement.{Placement}
-use Rattle.lk_model.specs.declared.layouts.SectionRow.{SectionRow}
 use Rattle.lk_model.specs.declared.summaries.PieceInfo.{PieceInfo}
 use Rattle.lk_model.specs.Elf.{elf_of}
 use Rattle.lk_model.specs.FullPlace.{tail_start}
-use Rattle.lk_model.specs.LinkedBytes.{patch}
-use Rattle.lk_model.specs.Objects.{is_piece_in, summary_in}
+use Rattle.lk_model.specs.Objects.{is_piece_in, relocations_in, summary_in}
 use Rattle.lk_model.specs.Overflows.{overflow_of}
-use Rattle.lk_model.specs.SectionKeys.{in_file}
 use Rattle.lk_model.specs.Views.{Elf, Ref, Resolved}
 use Rattle.lk_obj_read.proofs.ObjectsStored.{pieces_reported}
 use Rattle.lk_relocate.specs.Faults.{overflows}
 use Rattle.lk_relocate.specs.ObjectsOfInputs.{IsObjectOf, object_in}
 use Rattle.lk_relocate.specs.PieceLists.{is_listed}
-use Rattle.lk_relocate.specs.Places.{KnownPiece, KnownSection, piece_filled, put_in_row, with_piece}
-use Rattle.lk_relocate.specs.References.{piece_references, placed_references}
+use Rattle.lk_relocate.specs.Places.{KnownId, KnownPiece, KnownSection, with_piece}
+use Rattle.lk_relocate.specs.References.{piece_references, placed_references, references_by}
 use Rattle.lk_relocate.proofs.Lists.{all_at}
-use Rattle.lk_relocate.proofs.PlacesReported.{patch_nothing}
+use Rattle.lk_relocate.proofs.PlacesReported.{references_are}
 
 -- ---- pieces of an object
 
@@ -66,30 +63,17 @@ known_there objects r n s k e = absurd (none (object_in objects n) (sym e) k.in_
     none : (o : Option (List ℕ)) → o ≡ None → o ≡ Some k.bytes → ⊥
     none o is there = cc
 
--- ---- pieces without bytes
+-- the section of an input that a placed piece is
+pub known_section : (objects : List (Option (List ℕ))) (r : Resolved) (place : Placement) (p : PieceRow) (n s : ℕ) → p.piece ≡ id.Section n s → KnownPiece objects r place p → KnownSection objects r n s
+known_section objects r place p n s is known = subst (λ (q : PieceId). KnownId objects r q) is known.known
 
-nothing_put : (r : Resolved) (place : Placement) (image : List ℕ) (p : PieceRow) → piece_filled r place p.size p.piece ≡ [] → (o : Option SectionRow) → image ≡ put_in_row r place image p o
-nothing_put r place image p e None = refl
-nothing_put r place image p e (Some row) = by (in_file row.key.class)
-  where
-    by : (b : Bool) → image ≡ cond b (patch image (row.offset + (p.addr - row.addr)) (piece_filled r place p.size p.piece)) image
-    by true = sym (ap (patch image (row.offset + (p.addr - row.addr))) e ∙ patch_nothing image (row.offset + (p.addr - row.addr)))
-    by false = refl
-
-pub common_put : (r : Resolved) (place : Placement) (image : List ℕ) (p : PieceRow) (name : ℕ) → p.piece ≡ id.Common name → image ≡ with_piece r place image p
-common_put r place image p name e = nothing_put r place image p (ap (piece_filled r place p.size) e) (slice_get place.sections p.section)
-
-pub copy_put : (r : Resolved) (place : Placement) (image : List ℕ) (p : PieceRow) (name : ℕ) → p.piece ≡ id.Copy name → image ≡ with_piece r place image p
-copy_put r place image p name e = nothing_put r place image p (ap (piece_filled r place p.size) e) (slice_get place.sections p.section)
-
-none_reported : (r : Resolved) (place : Placement) (faults : List Fault) (p : PieceId) → piece_references r p ≡ [] → faults ≡ faults ++ overflows r place (piece_references r p)
-none_reported r place faults p e = sym (ap (λ refs. faults ++ overflows r place refs) e ∙ append-nil faults)
-
-pub common_reported : (r : Resolved) (place : Placement) (faults : List Fault) (p : PieceId) (name : ℕ) → p ≡ id.Common name → faults ≡ faults ++ overflows r place (piece_references r p)
-common_reported r place faults p name e = none_reported r place faults p (ap (piece_references r) e)
-
-pub copy_reported : (r : Resolved) (place : Placement) (faults : List Fault) (p : PieceId) (name : ℕ) → p ≡ id.Copy name → faults ≡ faults ++ overflows r place (piece_references r p)
-copy_reported r place faults p name e = none_reported r place faults p (ap (piece_references r) e)
+-- the faults of the section are those of the piece
+pub section_reported : (r : Resolved) (place : Placement) (p : PieceId) (n s : ℕ) (bytes : List ℕ) (old new : List Fault) → p ≡ id.Section n s → IsObjectOf r.inputs n bytes
+    → new ≡ old ++ overflows r place (references_by r n bytes s (relocations_in (elf_of bytes) s)) → new ≡ old ++ overflows r place (piece_references r p)
+section_reported r place p n s bytes old new is o reported =
+    reported
+    ∙ ap (λ (refs : List Ref). old ++ overflows r place refs) (sym (references_are r n s bytes o))
+    ∙ ap (λ (q : PieceId). old ++ overflows r place (piece_references r q)) (sym is)
 
 -- ---- one piece after another
 

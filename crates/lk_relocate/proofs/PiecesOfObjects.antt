@@ -1,10 +1,10 @@
 -- The pieces of an object: their sections differ, and terminators alone have more bytes than their size.
-use Rattle.std.proofs.Common.{◌≡◌, refl, sym, ap, subst, ◌∙◌, arith, ℕ, zero, suc, nat_eq, ◌+◌, ◌<◌, ◌≤◌, ◌==◌, Bool, true, false, cond, ◌&&◌, ◌||◌, if◌then◌else◌, List, [], ◌∷◌, ◌++◌, drop, flat_map, length, take, Option, None, Some, option_and_then, option_map}
+use Rattle.std.proofs.Common.{◌≡◌, refl, sym, ap, subst, ◌∙◌, arith, ℕ, suc, nat_eq, ◌+◌, ◌<◌, ◌≤◌, ◌==◌, Bool, true, false, cond, ◌||◌, if◌then◌else◌, List, [], ◌∷◌, ◌++◌, drop, flat_map, length, Option, None, Some, option_and_then, option_map}
 use Rattle.std.proofs.lemmas.Bool.{and_parts}
 use Rattle.std.proofs.lemmas.Bool.Decides.{nat_tests}
 use Rattle.std.proofs.lemmas.List.{append-nil, length-take}
 use Rattle.std.specs.Cmp.Lexicographic.{bytes_decides}
-use Rattle.std.specs.List.{AllByRecursion, cons_option, enumerate_from, filter_map, list_any, slice_get}
+use Rattle.std.specs.List.{AllByRecursion, cons_option, enumerate_from, filter_map, slice_get}
 use Rattle.std.specs.Option.{option_to_list}
 use Rattle.std.specs.Str.{bytes_eq}
 use Rattle.lk_elf.specs.Numbers.{sht_nobits}
@@ -12,7 +12,7 @@ use Rattle.lk_elf.specs.declared.section_header.Shdr.{Shdr}
 use Rattle.lk_model.specs.declared.layouts.SectionKey.{SectionKey}
 use Rattle.lk_model.specs.declared.summaries.PieceInfo.{PieceInfo}
 use Rattle.lk_model.specs.Elf.{bytes_under, section_at, section_name}
-use Rattle.lk_model.specs.Objects.{four_zeros, is_frames, is_terminator, is_terminator_where, piece_bytes_in, piece_named, piece_with, pieces_in, relocations_in, summary_in}
+use Rattle.lk_model.specs.Objects.{four_zeros, is_frames, is_terminator, is_terminator_where, piece_bytes_in, piece_named, piece_with, pieces_in, relocations_in}
 use Rattle.lk_model.specs.Pieces.{key_of}
 use Rattle.lk_model.specs.Views.{Elf}
 use Rattle.lk_model.proofs.Rising.{all_map}

@@ -1,6 +1,6 @@
 -- The placed pieces of a lawful placement are known: each is kept by its object, and lies before the tail where the
 -- file holds it.
-use Rattle.std.proofs.Common.{◌≡◌, refl, sym, ap, subst, ◌∙◌, arith, ℕ, zero, suc, ◌+◌, ◌-◌, ◌≤◌, Bool, true, false, cond, nat_le, ◌&&◌, IsTrue, List, [], ◌∷◌, ◌++◌, filter, flat_map, length, map, Option, None, Some, slice_get}
+use Rattle.std.proofs.Common.{◌≡◌, refl, sym, ap, subst, arith, ℕ, zero, suc, ◌+◌, ◌≤◌, Bool, true, false, cond, nat_le, ◌&&◌, IsTrue, List, [], ◌∷◌, ◌++◌, filter, flat_map, map, Option, None, Some, slice_get}
 use Rattle.std.proofs.lemmas.Bool.{and_parts, both_ways}
 use Rattle.std.proofs.lemmas.Bool.Decides.{nat_tests}
 use Rattle.std.specs.List.{AllByRecursion}
@@ -12,7 +12,7 @@ use Rattle.lk_model.specs.declared.layouts.SectionRow.{SectionRow}
 use Rattle.lk_model.specs.FullPlace.{tail_start}
 use Rattle.lk_model.specs.Lawful.{RowOf, as_kept, as_placed, row_passes}
 use Rattle.lk_model.specs.SectionKeys.{in_file}
-use Rattle.lk_model.specs.Views.{KeptPiece, Ref, Resolved}
+use Rattle.lk_model.specs.Views.{KeptPiece, Resolved}
 use Rattle.lk_model.proofs.Rising.{all_of_map, below_greatest}
 use Rattle.lk_relocate.specs.Places.{KnownId, KnownPiece, LiesInRow}
 use Rattle.lk_relocate.specs.References.{piece_references, placed_references}

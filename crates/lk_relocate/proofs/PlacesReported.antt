@@ -1,21 +1,19 @@
 -- A section that is copied to its place, with its fields filled, leaves the file with the piece that it is.
-use Rattle.std.proofs.Common.{◌≡◌, refl, sym, ap, subst, ◌∙◌, arith, ℕ, ◌+◌, ◌-◌, ◌≤◌, Bool, true, false, cond, nat_le, ◌&&◌, List, [], ◌∷◌, ◌++◌, drop, length, map, take, Option, None, Some, slice_get}
+use Rattle.std.proofs.Common.{◌≡◌, refl, sym, ap, ◌∙◌, arith, ℕ, ◌+◌, ◌-◌, ◌≤◌, Bool, true, false, cond, nat_le, ◌&&◌, List, [], ◌++◌, drop, length, map, take, Option, None, Some, slice_get}
 use Rattle.std.proofs.lemmas.Bool.Decides.{nat_tests}
 use Rattle.std.proofs.lemmas.List.{append-nil, take-append-drop}
 use Rattle.std.specs.Bool.{then_some}
-use Rattle.lk_model.specs.declared.layouts.PieceId.{PieceId}
 use Rattle.lk_model.specs.declared.layouts.PieceId.TheVariants as id
 use Rattle.lk_model.specs.declared.layouts.PieceRow.{PieceRow}
 use Rattle.lk_model.specs.declared.layouts.Placement.{Placement}
 use Rattle.lk_model.specs.declared.layouts.SectionRow.{SectionRow}
-use Rattle.lk_model.specs.declared.summaries.InputSummary.{InputSummary}
 use Rattle.lk_model.specs.Elf.{elf_of}
 use Rattle.lk_model.specs.FullPlace.{tail_start}
 use Rattle.lk_model.specs.LinkedBytes.{patch}
 use Rattle.lk_model.specs.Objects.{piece_bytes_in, relocations_in, summary_in}
 use Rattle.lk_model.specs.References.{reference_of}
 use Rattle.lk_model.specs.SectionKeys.{in_file}
-use Rattle.lk_model.specs.Views.{Elf, Input, Ref, Resolved}
+use Rattle.lk_model.specs.Views.{Input, Resolved}
 use Rattle.lk_relocate.specs.Fields.{all_filled}
 use Rattle.lk_relocate.specs.ObjectsOfInputs.{IsObjectOf}
 use Rattle.lk_relocate.specs.Places.{LiesInRow, piece_filled, place_in, place_in_row, put_in_row, section_filled, with_piece, written_at}

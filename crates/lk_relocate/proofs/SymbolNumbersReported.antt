@@ -1,10 +1,9 @@
 -- What is found of a symbol of an object is the value of the symbol in a link whose input the object is.
-use Rattle.std.proofs.Common.{◌≡◌, refl, sym, ap, subst, ◌∙◌, arith, ℕ, ◌≤◌, ◌^◌, nat_eq, ◌==◌, Bool, true, false, cond, List, [], ◌∷◌, find, Option, Some, None, slice_get}
+use Rattle.std.proofs.Common.{◌≡◌, refl, sym, ap, subst, ◌∙◌, arith, ℕ, ◌≤◌, ◌^◌, nat_eq, ◌==◌, Bool, true, false, cond, List, find, Option, Some, None}
 use Rattle.std.proofs.lemmas.Bool.Decides.{nat_tests}
 use Rattle.lk_elf.specs.Numbers.{stb_weak}
 use Rattle.lk_report.specs.declared.causes.OptionRecord.{OptionRecord}
 use Rattle.lk_model.specs.declared.layouts.Needs.{Needs}
-use Rattle.lk_model.specs.declared.layouts.Placement.{Placement}
 use Rattle.lk_model.specs.declared.summaries.Contributions.{Contributions}
 use Rattle.lk_model.specs.declared.summaries.Global.{Global}
 use Rattle.lk_model.specs.declared.summaries.Home.TheVariants as home
@@ -47,7 +46,7 @@ found_local r n bytes k local found o =
     ∙ ap (λ (e : Elf). local_in e k) (sym o.file)
     ∙ ap (λ (y : Option Input). elim y [ None ↦ record { home = home.Undefined; value = 0; size = 0; code = 0 } | Some i ↦ local_in i.elf k ]) (sym o.there)
 
-module _ (known : ValueInputs) (n : ℕ) (bytes : List ℕ) (k : ℕ) (r : Resolved) (link : IsLinkOf known.resolution known known.place r) (o : IsObjectOf r.inputs n bytes) where
+module _ (known : ValueInputs) (n : ℕ) (bytes : List ℕ) (k : ℕ) (r : Resolved) (link : IsLinkOf known r) (o : IsObjectOf r.inputs n bytes) where
   abbrev chosen : Resolved
   chosen = resolve link.options link.inputs
 

@@ -1,12 +1,12 @@
 -- The tables of an object, after another one and for a section.
-use Rattle.std.proofs.Common.{◌≡◌, sym, ap, subst, ◌∙◌, ℕ, Bool, List, [], Option, Some}
+use Rattle.std.proofs.Common.{◌≡◌, sym, ap, subst, ◌∙◌, ℕ, List, [], Option, Some}
 use Rattle.lk_symbol_values.specs.SymbolNumbering.{ValueInputs}
-use Rattle.lk_symbol_values.specs.declared.values.SymbolNumbers.{SymbolNumbers}
+use Rattle.lk_relocate.specs.declared.object_tables.ObjectTables.{ObjectTables}
 use Rattle.lk_relocate.specs.ObjectsOfInputs.{object_in}
 use Rattle.lk_relocate.specs.ObjectTables.{AreCurrent, AreTablesOf}
 use Rattle.lk_relocate.specs.NumbersOfSymbols.{AreNumbersOf}
 
--- nothing is known of the symbols of an object at first
+-- at first no numbers of the symbols of an object are noted
 pub none_known : (known : ValueInputs) (n : ℕ) (bytes : List ℕ) → AreNumbersOf known n bytes []
 none_known known n bytes = λ symbol w e. absurd (cc)
 
@@ -16,13 +16,13 @@ same_input n m e = cc
 same_bytes : (xs ys : List ℕ) → Some xs ≡ Some ys → xs ≡ ys
 same_bytes xs ys e = cc
 
-module _ (known : ValueInputs) (objects : List (Option (List ℕ))) (n : ℕ) (bytes : List ℕ) (numbers_by_symbol : List (Option SymbolNumbers)) (marks : List Bool) (in_object : Some bytes ≡ object_in objects n) (tables : AreTablesOf known n bytes numbers_by_symbol marks) where
-  -- the object of an input is one
-  pub tables_of_input : (other : List ℕ) → object_in objects n ≡ Some other → AreTablesOf known n other numbers_by_symbol marks
-  tables_of_input other there = subst (λ (xs : List ℕ). AreTablesOf known n xs numbers_by_symbol marks) (same_bytes bytes other (in_object ∙ there)) tables
+module _ (known : ValueInputs) (objects : List (Option (List ℕ))) (n : ℕ) (bytes : List ℕ) (t : ObjectTables) (in_object : Some bytes ≡ object_in objects n) (tables : AreTablesOf known n bytes t) where
+  -- an input has one object
+  tables_of_input : (other : List ℕ) → object_in objects n ≡ Some other → AreTablesOf known n other t
+  tables_of_input other there = subst (λ (xs : List ℕ). AreTablesOf known n xs t) (same_bytes bytes other (in_object ∙ there)) tables
 
-  -- the input that the tables are of is one
-  pub tables_current : (at : Option ℕ) → at ≡ Some n → AreCurrent known objects at numbers_by_symbol marks
-  tables_current at is = λ m here other there.
+  -- the tables are of one input
+  pub tables_current : t.input ≡ Some n → AreCurrent known objects t
+  tables_current is = λ m here other there.
       let same : n ≡ m = same_input n m (sym is ∙ here) in
-      subst (λ k. AreTablesOf known k other numbers_by_symbol marks) same (tables_of_input other (ap (λ k. object_in objects k) same ∙ there))
+      subst (λ k. AreTablesOf known k other t) same (tables_of_input other (ap (λ k. object_in objects k) same ∙ there))

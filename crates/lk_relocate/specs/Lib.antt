@@ -8,3 +8,4 @@ pub mod ObjectTables
 pub mod Fields
 pub mod Faults
 pub mod Places
+pub mod ObjectSections

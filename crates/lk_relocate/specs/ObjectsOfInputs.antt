@@ -5,7 +5,7 @@ use Rattle.lk_model.specs.Elf.{elf_of}
 use Rattle.lk_model.specs.Objects.{summary_in}
 use Rattle.lk_model.specs.Views.{Input}
 
--- the object with a number, where there is one
+-- the object of the input with a number, if it has one
 abbrev pub object_in : List (Option (List ℕ)) → ℕ → Option (List ℕ)
 object_in objects n = elim (slice_get objects n) [ None ↦ None | Some o ↦ o ]
 
@@ -16,7 +16,7 @@ pub record IsObjectOf (inputs : List Input) (n : ℕ) (bytes : List ℕ) : Type 
   pub file : input.elf ≡ elf_of bytes
   pub summary : input.summary ≡ summary_in input.elf
 
--- the object with a number is that of the input with this number
+-- the input with a number has its object
 pub record HoldsObject (objects : List (Option (List ℕ))) (inputs : List Input) (n : ℕ) : Type 0 where
   pub bytes : List ℕ
   pub in_object : object_in objects n ≡ Some bytes

@@ -1,5 +1,5 @@
 -- This project's own: where the bytes of a piece are in the file, and a file with the linked bytes of a piece.
-use Rattle.std.specs.Prelude.{◌≡◌, ℕ, ◌+◌, ◌-◌, ◌≤◌, nat_le, Bool, true, ◌&&◌, cond, List, [], length, Option, Some, None}
+use Rattle.std.specs.Prelude.{◌≡◌, ℕ, ◌+◌, ◌-◌, ◌≤◌, nat_le, true, ◌&&◌, cond, List, [], length, Option, Some, None}
 use Rattle.std.specs.Bool.{then_some}
 use Rattle.std.specs.List.{slice_get}
 use Rattle.lk_model.specs.declared.layouts.PieceId.{PieceId}
@@ -31,7 +31,7 @@ place_in_row size p count (Some row) = cond (in_file row.key.class) (place_with 
 abbrev pub place_in : Placement → ℕ → PieceRow → ℕ → Option ℕ
 place_in place size p count = place_in_row size p count (slice_get place.sections p.section)
 
--- a file with bytes at a place, where there is one
+-- a file with bytes at a place, if they have one
 abbrev pub written_at : List ℕ → Option ℕ → List ℕ → List ℕ
 written_at image None bytes = image
 written_at image (Some at) bytes = patch image at bytes
@@ -46,7 +46,7 @@ piece_filled r place size (id.Section n section) = elim (slice_get r.inputs n) [
 piece_filled r place size (id.Common name) = []
 piece_filled r place size (id.Copy name) = []
 
--- a file with the bytes of a piece, where it holds the section of the piece
+-- a file with the bytes of a piece, if the file has the output section of the piece
 abbrev pub put_in_row : Resolved → Placement → List ℕ → PieceRow → Option SectionRow → List ℕ
 put_in_row r place image p None = image
 put_in_row r place image p (Some row) = cond (in_file row.key.class) (patch image (row.offset + (p.addr - row.addr)) (piece_filled r place p.size p.piece)) image
@@ -54,12 +54,12 @@ put_in_row r place image p (Some row) = cond (in_file row.key.class) (patch imag
 abbrev pub with_piece : Resolved → Placement → List ℕ → PieceRow → List ℕ
 with_piece r place image p = put_in_row r place image p (slice_get place.sections p.section)
 
--- a piece lies in a row, and where the file holds the row it lies before the tail
+-- a piece lies in a row, and before the tail if the file has the row
 abbrev pub LiesInRow : Placement → PieceRow → Option SectionRow → Type 0
 LiesInRow place p None = Unit {0}
 LiesInRow place p (Some row) = in_file row.key.class ≡ true → (row.addr ≤ p.addr) × (row.offset + (p.addr - row.addr) + p.size ≤ tail_start place)
 
--- what is known of a piece that is a section of an input: the object is that of the input and has the piece
+-- a piece that is a section of an input: the object is that of the input, and the section is one of its pieces
 pub record KnownSection (objects : List (Option (List ℕ))) (r : Resolved) (n section : ℕ) : Type 0 where
   pub bytes : List ℕ
   pub in_object : object_in objects n ≡ Some bytes
@@ -71,7 +71,7 @@ KnownId objects r (id.Section n section) = KnownSection objects r n section
 KnownId objects r (id.Common name) = Unit {0}
 KnownId objects r (id.Copy name) = Unit {0}
 
--- what is known of a placed piece
+-- a placed piece of a link
 pub record KnownPiece (objects : List (Option (List ℕ))) (r : Resolved) (place : Placement) (p : PieceRow) : Type 0 where
   pub known : KnownId objects r p.piece
   pub lies : LiesInRow place p (slice_get place.sections p.section)

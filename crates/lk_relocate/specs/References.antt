@@ -1,5 +1,5 @@
 -- The references of a piece (gABI "Relocation").
-use Rattle.std.specs.Prelude.{ℕ, List, [], map, Option, Some, None}
+use Rattle.std.specs.Prelude.{ℕ, List, [], map, Some, None}
 use Rattle.std.specs.List.{flat_map, slice_get}
 use Rattle.lk_elf.specs.declared.relocation.Rela.{Rela}
 use Rattle.lk_model.specs.declared.layouts.PieceId.{PieceId}

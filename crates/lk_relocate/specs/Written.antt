@@ -15,7 +15,7 @@ use Rattle.lk_model.specs.Views.{KeptPiece, Resolved}
 abbrev pub written : List ℕ → List Stretch → List ℕ
 written image stretches = fold (λ bytes (s : Stretch). patch bytes s.at s.bytes) image stretches
 
--- a kept piece in its row, where the file holds that
+-- a kept piece in its row, if the file has the row
 abbrev pub stretch_in : Resolved → Placement → KeptPiece × PieceRow → Option SectionRow → List Stretch
 stretch_in r place z None = []
 stretch_in r place z (Some row) = if in_file row.key.class then piece_stretch r place row z ∷ [] else []
@@ -23,6 +23,6 @@ stretch_in r place z (Some row) = if in_file row.key.class then piece_stretch r 
 abbrev pub placed_stretch : Resolved → Placement → KeptPiece × PieceRow → List Stretch
 placed_stretch r place (kept, p) = stretch_in r place (kept, p) (slice_get place.sections p.section)
 
--- the linked bytes of the kept pieces that the file holds, in their order
+-- the linked bytes of the kept pieces that have bytes in the file, in their order
 abbrev pub piece_stretches : Resolved → Placement → List Stretch
 piece_stretches r place = flat_map (placed_stretch r place) (zip r.kept place.pieces)

@@ -1,5 +1,5 @@
-//! The fields of the relocations of a section are filled with their values, and a value that does not fit is reported
-//! (gABI "Relocation"; psABI x86-64 "Relocation Types").
+//! The fields of the relocations of a section are filled with their values, and a value that does not fit its field is
+//! reported (gABI "Relocation"; psABI x86-64 "Relocation Types").
 
 ghost use Rattle.std.specs.Prelude.{◌≡◌, ◌∷◌, ◌+◌, ◌++◌, ◌≤◌, [], All, length, OnOk};
 ghost use Rattle.std.specs.Option.{option_to_list};
@@ -9,10 +9,7 @@ ghost use Rattle.lk_model.specs.Views.{Resolved};
 ghost use Rattle.lk_elf.specs.RelocationInfo.{r_type_of};
 ghost use Rattle.lk_relocate.specs.Faults.{overflow_at, overflows};
 ghost use Rattle.lk_relocate.specs.Fields.{all_filled, filled_at};
-ghost use Rattle.lk_relocate.specs.ObjectsOfInputs.{IsObjectOf};
-ghost use Rattle.lk_relocate.specs.Links.{IsLinkOf};
-ghost use Rattle.lk_relocate.specs.References.{reference_in, references_by};
-ghost use Rattle.lk_relocate.specs.NumbersOfSymbols.{IsReady};
+ghost use Rattle.lk_relocate.specs.ObjectSections.{IsReady, IsSectionOf, references_among, section_reference};
 
 use crate::object_sections::ObjectSection;
 use lk_elf::Rela;
@@ -21,7 +18,7 @@ use lk_reloc::{apply, value};
 use lk_report::{FaultList, NoMemory};
 use std::alloc::Global;
 
-/// The bytes that the widest field has.
+/// The width of the widest field, in bytes.
 const WIDEST: usize = 8;
 
 /// Reports that the value of a relocation with these numbers does not fit its field.
@@ -33,15 +30,15 @@ fn report_overflow(
     value: u64,
     faults: &mut FaultList,
 ) -> Result<(), NoMemory>
-    ensures { (r : Resolved) → IsLinkOf section.now.resolution.now section.now.values.now section.now.placement.now r → OnOk result (faults.new ≡ faults.old ++ overflow_at (path_of_input r section.now.input) section.now.section rela.now.r_offset numbers.p numbers.s numbers.a value ∷ []) }
+    ensures { (r : Resolved) → IsSectionOf section.now r → OnOk result (faults.new ≡ faults.old ++ overflow_at (path_of_input r section.now.input) section.now.section rela.now.r_offset numbers.p numbers.s numbers.a value ∷ []) }
 {
     let fault = section.overflow(alloc, rela, numbers, value)?;
     faults.push(fault)?;
     Ok(())
 }
 
-/// Fills the field of a relocation of a section, which begins at `at` in these bytes, or reports that its value does
-/// not fit.
+/// Fills the field of a relocation of a section, which begins at `at` in these bytes, or reports a value that does not
+/// fit.
 fn fill_field(
     alloc: Global,
     section: &ObjectSection<'_>,
@@ -50,10 +47,10 @@ fn fill_field(
     rela: &Rela,
     faults: &mut FaultList,
 ) -> Result<(), NoMemory>
-    requires ready { IsReady section.now.values.now section.now.input section.now.section section.now.object.now section.now.numbers_by_symbol.now.items section.now.start }
+    requires ready { IsReady section.now }
     requires within { at + width_of (r_type_of rela.now) ≤ length bytes.old }
-    ensures filled { (r : Resolved) → IsLinkOf section.now.resolution.now section.now.values.now section.now.placement.now r → IsObjectOf r.inputs section.now.input section.now.object.now → OnOk result (bytes.new ≡ filled_at r section.now.placement.now at bytes.old (reference_in r section.now.input section.now.object.now section.now.section rela.now)) }
-    ensures reported { (r : Resolved) → IsLinkOf section.now.resolution.now section.now.values.now section.now.placement.now r → IsObjectOf r.inputs section.now.input section.now.object.now → OnOk result (faults.new ≡ faults.old ++ option_to_list (overflow_of r section.now.placement.now (reference_in r section.now.input section.now.object.now section.now.section rela.now))) }
+    ensures filled { (r : Resolved) → IsSectionOf section.now r → OnOk result (bytes.new ≡ filled_at r section.now.values.now.place at bytes.old (section_reference r section.now rela.now)) }
+    ensures reported { (r : Resolved) → IsSectionOf section.now r → OnOk result (faults.new ≡ faults.old ++ option_to_list (overflow_of r section.now.values.now.place (section_reference r section.now rela.now))) }
 {
     let numbers = section.relocation_numbers(rela);
     let code = rela.r_type();
@@ -67,7 +64,7 @@ fn fill_field(
     }
 }
 
-/// Fills the fields of relocations of a section, whose bytes these are, and reports the values that do not fit.
+/// Fills the fields of relocations in the bytes of their section, and reports the values that do not fit.
 pub(crate) fn fill_fields(
     alloc: Global,
     section: &ObjectSection<'_>,
@@ -75,10 +72,10 @@ pub(crate) fn fill_fields(
     relas: &[Rela],
     faults: &mut FaultList,
 ) -> Result<(), NoMemory>
-    requires ready { IsReady section.now.values.now section.now.input section.now.section section.now.object.now section.now.numbers_by_symbol.now.items section.now.start }
+    requires ready { IsReady section.now }
     requires within { All (λ rela. rela.r_offset + width_of (r_type_of rela) ≤ length bytes.old) relas.now }
-    ensures filled { (r : Resolved) → IsLinkOf section.now.resolution.now section.now.values.now section.now.placement.now r → IsObjectOf r.inputs section.now.input section.now.object.now → OnOk result (bytes.new ≡ all_filled r section.now.placement.now bytes.old (references_by r section.now.input section.now.object.now section.now.section relas.now)) }
-    ensures reported { (r : Resolved) → IsLinkOf section.now.resolution.now section.now.values.now section.now.placement.now r → IsObjectOf r.inputs section.now.input section.now.object.now → OnOk result (faults.new ≡ faults.old ++ overflows r section.now.placement.now (references_by r section.now.input section.now.object.now section.now.section relas.now)) }
+    ensures filled { (r : Resolved) → IsSectionOf section.now r → OnOk result (bytes.new ≡ all_filled r section.now.values.now.place bytes.old (references_among r section.now relas.now)) }
+    ensures reported { (r : Resolved) → IsSectionOf section.now r → OnOk result (faults.new ≡ faults.old ++ overflows r section.now.values.now.place (references_among r section.now relas.now)) }
 {
     for rela in relas {
         fill_field(alloc, section, bytes, rela.r_offset as usize, rela, faults)?;
@@ -86,7 +83,7 @@ pub(crate) fn fill_fields(
     Ok(())
 }
 
-/// Reports the values of relocations of a section that do not fit, and fills no field.
+/// Reports the values of relocations of a section that do not fit their fields, and fills none.
 #[tactic(auto, using(crate::proofs::Widths::width_short))]
 pub(crate) fn check_fields(
     alloc: Global,
@@ -94,8 +91,8 @@ pub(crate) fn check_fields(
     relas: &[Rela],
     faults: &mut FaultList,
 ) -> Result<(), NoMemory>
-    requires { IsReady section.now.values.now section.now.input section.now.section section.now.object.now section.now.numbers_by_symbol.now.items section.now.start }
-    ensures { (r : Resolved) → IsLinkOf section.now.resolution.now section.now.values.now section.now.placement.now r → IsObjectOf r.inputs section.now.input section.now.object.now → OnOk result (faults.new ≡ faults.old ++ overflows r section.now.placement.now (references_by r section.now.input section.now.object.now section.now.section relas.now)) }
+    requires { IsReady section.now }
+    ensures { (r : Resolved) → IsSectionOf section.now r → OnOk result (faults.new ≡ faults.old ++ overflows r section.now.values.now.place (references_among r section.now relas.now)) }
 {
     for rela in relas {
         let mut field = [0; WIDEST];

@@ -1,147 +1,98 @@
 //! All pieces of a link are put into the file, one after another (this project's own; gABI "Relocation").
 
-ghost use Rattle.std.specs.Prelude.{◌≡◌, ℕ, ◌++◌, ◌≤◌, List, [], Some, fold, length, slice_get, IfOk, OnOk};
-ghost use Rattle.std.specs.List.{AllByRecursion};
-ghost use Rattle.lk_model.specs.declared.layouts.PieceId.TheVariants as id;
+ghost use Rattle.std.specs.Prelude.{◌≡◌, ◌++◌, ◌≤◌, [], length, IfOk, OnOk};
 ghost use Rattle.lk_model.specs.FullPlace.{tail_start};
 ghost use Rattle.lk_model.specs.Overflows.{overflow_faults};
 ghost use Rattle.lk_model.specs.Views.{Resolved};
 ghost use Rattle.lk_relocate.specs.Faults.{overflows};
-ghost use Rattle.lk_relocate.specs.ObjectsOfInputs.{object_in};
 ghost use Rattle.lk_relocate.specs.Links.{IsLinkOf, IsLinked};
-ghost use Rattle.lk_relocate.specs.ObjectTables.{AreCurrent, AreTablesOf};
-ghost use Rattle.lk_relocate.specs.Places.{KnownPiece, KnownSection, LiesInRow, with_piece};
-ghost use Rattle.lk_relocate.specs.References.{piece_references, placed_references};
+ghost use Rattle.lk_relocate.specs.ObjectTables.{AreCurrent};
+ghost use Rattle.lk_relocate.specs.Places.{KnownPiece, with_piece};
+ghost use Rattle.lk_relocate.specs.References.{piece_references};
 ghost use Rattle.lk_relocate.specs.Written.{piece_stretches, written};
 
 use crate::object_sections::ObjectSection;
 use crate::object_tables::{ObjectTables, object_at};
-use crate::section_linking::link_piece;
-use lk_model::layouts::{PieceId, PieceRow, Placement};
+use crate::section_linking::link_section;
+use lk_model::layouts::{PieceId, PieceRow};
 use lk_obj_read::Object;
 use lk_report::{FaultList, List, NoMemory};
-use lk_resolve::Resolution;
 use lk_symbol_values::Values;
 use std::alloc::Global;
 
-/// A link whose pieces are put into a file.
-#[derive(Drop)]
-struct Link<'a> {
-    objects: &'a [Option<Object>],
-    resolution: &'a Resolution,
-    values: &'a Values<'a>,
-    placement: &'a Placement,
-}
-
-impl<'a> Link<'a> {
-    /// Puts a section of an input into the file, which is this placed piece; `current` has the tables of its object.
-    fn put_section(
-        &self,
-        alloc: Global,
-        current: &ObjectTables,
-        piece: &PieceRow,
-        input: u32,
-        section: u32,
-        image: &mut [u8],
-        faults: &mut FaultList,
-    ) -> Result<(), NoMemory>
-        requires { (bytes : List ℕ) → object_in self.now.objects.now input ≡ Some bytes → AreTablesOf self.now.values.now input bytes current.now.numbers_by_symbol.items current.now.marks.items }
-        ensures linked { (r : Resolved) → IsLinkOf self.now.resolution.now self.now.values.now self.now.placement.now r → KnownSection self.now.objects.now r input section → LiesInRow self.now.placement.now piece.now (slice_get self.now.placement.now.sections piece.now.section) → piece.now.piece ≡ id.Section input section → tail_start self.now.placement.now ≤ length image.old → OnOk result (image.new ≡ with_piece r self.now.placement.now image.old piece.now) }
-        ensures reported { (r : Resolved) → IsLinkOf self.now.resolution.now self.now.values.now self.now.placement.now r → KnownSection self.now.objects.now r input section → OnOk result (faults.new ≡ faults.old ++ overflows r self.now.placement.now (piece_references r (id.Section input section))) }
-    {
-        match object_at(self.objects, input) {
+/// Puts a placed piece into the file `image`. `tables` are those of the object of the piece before it, and then those
+/// of its own object. A common block and a copy have no bytes in the file.
+fn put_piece(
+    alloc: Global,
+    objects: &[Option<Object>],
+    values: &Values<'_>,
+    tables: &mut ObjectTables,
+    piece: &PieceRow,
+    image: &mut [u8],
+    faults: &mut FaultList,
+) -> Result<(), NoMemory>
+    requires { AreCurrent values.now objects.now tables.old }
+    ensures current { OnOk result (AreCurrent values.now objects.now tables.new) }
+    ensures linked { (r : Resolved) → IsLinkOf values.now r → KnownPiece objects.now r values.now.place piece.now → tail_start values.now.place ≤ length image.old → OnOk result (image.new ≡ with_piece r values.now.place image.old piece.now) }
+    ensures reported { (r : Resolved) → IsLinkOf values.now r → KnownPiece objects.now r values.now.place piece.now → OnOk result (faults.new ≡ faults.old ++ overflows r values.now.place (piece_references r piece.now.piece)) }
+{
+    match piece.piece {
+        PieceId::Common { .. } => Ok(()),
+        PieceId::Copy { .. } => Ok(()),
+        PieceId::Section { input, section } => match object_at(objects, input) {
             None => Ok(()),
             Some(object) => {
+                tables.get_ready(values, object, input, section)?;
                 let section = ObjectSection {
-                    resolution: self.resolution,
-                    values: self.values,
-                    placement: self.placement,
+                    values,
                     object,
-                    numbers_by_symbol: &current.numbers_by_symbol,
+                    tables,
                     input,
                     section,
-                    start: self.values.piece_start(input, section),
+                    start: values.piece_start(input, section),
                 };
-                link_piece(alloc, &section, &current.marks, piece, image, faults)?;
+                link_section(alloc, &section, piece, image, faults)?;
                 Ok(())
             }
-        }
-    }
-
-    /// Puts a piece into the file; `current` has the tables of the object of the piece before it.
-    fn put_piece(
-        &self,
-        alloc: Global,
-        current: &mut ObjectTables,
-        piece: &PieceRow,
-        image: &mut [u8],
-        faults: &mut FaultList,
-    ) -> Result<(), NoMemory>
-        requires { AreCurrent self.now.values.now self.now.objects.now current.old.input current.old.numbers_by_symbol.items current.old.marks.items }
-        ensures current { OnOk result (AreCurrent self.now.values.now self.now.objects.now current.new.input current.new.numbers_by_symbol.items current.new.marks.items) }
-        ensures linked { (r : Resolved) → IsLinkOf self.now.resolution.now self.now.values.now self.now.placement.now r → KnownPiece self.now.objects.now r self.now.placement.now piece.now → tail_start self.now.placement.now ≤ length image.old → OnOk result (image.new ≡ with_piece r self.now.placement.now image.old piece.now) }
-        ensures reported { (r : Resolved) → IsLinkOf self.now.resolution.now self.now.values.now self.now.placement.now r → KnownPiece self.now.objects.now r self.now.placement.now piece.now → OnOk result (faults.new ≡ faults.old ++ overflows r self.now.placement.now (piece_references r piece.now.piece)) }
-    {
-        match piece.piece {
-            PieceId::Common { .. } => Ok(()),
-            PieceId::Copy { .. } => Ok(()),
-            PieceId::Section { input, section } => {
-                current.get_ready(self.values, self.objects, input, section)?;
-                self.put_section(alloc, current, piece, input, section, image, faults)?;
-                Ok(())
-            }
-        }
-    }
-
-    /// Puts all placed pieces into the file.
-    fn put_pieces(
-        &self,
-        alloc: Global,
-        image: &mut [u8],
-        faults: &mut FaultList,
-    ) -> Result<(), NoMemory>
-        ensures linked { (r : Resolved) → IsLinkOf self.now.resolution.now self.now.values.now self.now.placement.now r → AllByRecursion (KnownPiece self.now.objects.now r self.now.placement.now) self.now.placement.now.pieces → tail_start self.now.placement.now ≤ length image.old → OnOk result (image.new ≡ fold (with_piece r self.now.placement.now) image.old self.now.placement.now.pieces) }
-        ensures reported { (r : Resolved) → IsLinkOf self.now.resolution.now self.now.values.now self.now.placement.now r → AllByRecursion (KnownPiece self.now.objects.now r self.now.placement.now) self.now.placement.now.pieces → OnOk result (faults.new ≡ faults.old ++ overflows r self.now.placement.now (placed_references r self.now.placement.now.pieces)) }
-    {
-        let mut current = ObjectTables::none(alloc);
-        let pieces = self.placement.pieces.as_slice();
-        for piece in pieces {
-            self.put_piece(alloc, &mut current, piece, image, faults)?;
-        }
-        Ok(())
+        },
     }
 }
 
-/// Puts the linked bytes of all placed pieces into the file `image`, one after another: each section of an object is
-/// copied to its place, and the value of each of its relocations is written into its field. `objects` has the object
-/// of each input by its number, where it is one and is added. Bytes between pieces stay as they are.
+/// Puts the linked bytes of all placed pieces into the file `image`, one after another (gABI "Relocation"): each
+/// section of an object is copied to its place, and the value of each of its relocations is written into its field.
+/// `objects` has the object of each added input, by the input's number; `values` have the resolution and the
+/// placement. Bytes between pieces stay as they are.
 ///
-/// Answers the values that do not fit their fields, by piece and relocation: each with its place P, its symbol S, its
+/// Returns the values that do not fit their fields, by piece and relocation: each with its place P, its symbol S, its
 /// addend A and its value modulo 2^64 (psABI x86-64 "Relocation Types"). The other fields are filled all the same.
 ///
-/// A piece is not put whose object is not there or has no such piece, and one that does not lie in the file.
+/// A piece is left out if its input has no object, its object has no such piece, or it does not lie in the file.
 ///
 /// # Errors
-/// Out of memory, which is taken for the tables of one object at a time and for faults.
+/// Out of memory: the tables of one object at a time and the faults take memory.
 pub fn link_pieces(
     alloc: Global,
     objects: &[Option<Object>],
-    resolution: &Resolution,
     values: &Values<'_>,
-    placement: &Placement,
     image: &mut [u8],
 ) -> Result<FaultList, NoMemory>
-    ensures reported { (r : Resolved) → IsLinked resolution.now values.now placement.now objects.now r → IfOk result (λ faults. faults ≡ overflow_faults r placement.now) }
-    ensures linked { (r : Resolved) → IsLinked resolution.now values.now placement.now objects.now r → tail_start placement.now ≤ length image.old → IfOk result (λ faults. faults ≡ [] → image.new ≡ written image.old (piece_stretches r placement.now)) }
+    ensures reported { (r : Resolved) → IsLinked values.now objects.now r → IfOk result (λ faults. faults ≡ overflow_faults r values.now.place) }
+    ensures linked { (r : Resolved) → IsLinked values.now objects.now r → tail_start values.now.place ≤ length image.old → IfOk result (λ faults. faults ≡ [] → image.new ≡ written image.old (piece_stretches r values.now.place)) }
     ensures size { length image.new ≡ length image.old }
 {
-    let link = Link {
-        objects,
-        resolution,
-        values,
-        placement,
-    };
+    let mut tables = ObjectTables::none(alloc);
     let mut faults = List::new(alloc);
-    link.put_pieces(alloc, image, &mut faults)?;
+    let pieces = values.placement().pieces.as_slice();
+    for piece in pieces {
+        put_piece(
+            alloc,
+            objects,
+            values,
+            &mut tables,
+            piece,
+            image,
+            &mut faults,
+        )?;
+    }
     Ok(faults)
 }

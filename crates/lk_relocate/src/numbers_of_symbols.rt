@@ -1,5 +1,6 @@
-//! The value of the symbols of an object to its relocations, by the numbers of the symbols (gABI "Symbol Table"):
-//! each is found once, on its first use, whatever the number of relocations through it.
+//! The numbers that the symbols of an object give to its relocations, by symbol table index (gABI "Symbol Table";
+//! psABI x86-64 "Relocation Types"): those of a symbol are found once, on its first use, however many relocations go
+//! through it.
 
 ghost use Rattle.std.specs.Prelude.{◌≡◌, ℕ, ◌==◌, cond, Some, OnOk};
 ghost use Rattle.lk_model.specs.References.{number_of_name};
@@ -12,10 +13,10 @@ use lk_obj_read::Object;
 use lk_report::{Name, NoMemory};
 use lk_symbol_values::{SymbolNumbers, Values};
 
-/// The values of symbols, by number, as far as they were asked for.
+/// The numbers of symbols, by symbol table index, as far as they were asked for.
 pub(crate) type NumbersOfSymbols = Vec<Option<SymbolNumbers>>;
 
-/// What is known of a symbol.
+/// The noted numbers of a symbol.
 pub(crate) fn symbol_numbers_at(
     numbers_by_symbol: &NumbersOfSymbols,
     symbol: u32,
@@ -28,7 +29,7 @@ pub(crate) fn symbol_numbers_at(
         .unwrap_or(None)
 }
 
-/// Notes the value of a symbol.
+/// Notes the numbers of a symbol.
 fn note_numbers(
     numbers_by_symbol: &mut NumbersOfSymbols,
     symbol: u32,
@@ -41,15 +42,15 @@ fn note_numbers(
     Ok(())
 }
 
-/// The number of a name among those that values are known of.
+/// The number of a name in the symbol table of the link.
 fn name_number(values: &Values<'_>, name: &Name) -> u32
     ensures { result ≡ number_of_name (all_symbols values.now.resolution.rows) name.now }
 {
     values.resolution().names().number_of(name)
 }
 
-/// The value of a symbol of an object, which is the input with this number: a name is looked up by its text, and a
-/// LOCAL symbol is read of the object.
+/// The numbers of a symbol of the object of an input: a name is looked up by its text, and a LOCAL symbol is read from
+/// the object.
 pub(crate) fn find_numbers(
     values: &Values<'_>,
     object: &Object,
@@ -70,7 +71,7 @@ pub(crate) fn find_numbers(
     }
 }
 
-/// Learns the value of a symbol, unless it is known.
+/// Notes the numbers of a symbol, unless they are noted already.
 fn learn_symbol(
     numbers_by_symbol: &mut NumbersOfSymbols,
     values: &Values<'_>,
@@ -89,7 +90,7 @@ fn learn_symbol(
     Ok(())
 }
 
-/// Learns the value of the symbols of these relocations.
+/// Notes the numbers of the symbols of these relocations.
 pub(crate) fn learn_symbols(
     numbers_by_symbol: &mut NumbersOfSymbols,
     values: &Values<'_>,

@@ -1,4 +1,4 @@
-//! The tables of the object whose pieces are linked: which sections are its pieces, and the value of its symbols.
+//! The tables of the object whose pieces are linked: which sections are its pieces, and the numbers of its symbols.
 //! The pieces of an object are together, so that the tables are made once for all of them, and the same lists serve
 //! one object after another.
 
@@ -18,15 +18,15 @@ use std::alloc::Global;
 /// The tables of one object.
 #[derive(Drop)]
 pub(crate) struct ObjectTables {
-    /// The number of the input that it is; none before the first one.
+    /// The number of the object's input; none before the first one.
     pub(crate) input: Option<u32>,
-    /// The value of its symbols, as far as its relocations asked for them.
+    /// The numbers of its symbols, as far as its relocations asked for them.
     pub(crate) numbers_by_symbol: NumbersOfSymbols,
     /// Which of its sections are its pieces.
     pub(crate) marks: PieceMarks,
 }
 
-/// The object that an input is, where there is one.
+/// The object of the input with a number, if it has one.
 pub(crate) fn object_at(objects: &[Option<Object>], input: u32) -> Option<&Object>
     ensures { option_copied result ≡ object_in objects.now input }
 {
@@ -40,7 +40,7 @@ pub(crate) fn object_at(objects: &[Option<Object>], input: u32) -> Option<&Objec
 impl ObjectTables {
     /// The tables of no object.
     pub(crate) fn none(alloc: Global) -> Self
-        ensures { (known : ValueInputs) (objects : List (Option (List ℕ))) → AreCurrent known objects result.input result.numbers_by_symbol.items result.marks.items }
+        ensures { (known : ValueInputs) (objects : List (Option (List ℕ))) → AreCurrent known objects result }
     {
         ObjectTables {
             input: None,
@@ -59,10 +59,10 @@ impl ObjectTables {
         }
     }
 
-    /// Turns to an object, which is the input with this number, unless it is the one already.
+    /// Turns to the object of an input, unless the tables are its tables already.
     fn turn_to(&mut self, values: &Values<'_>, object: &Object, input: u32) -> Result<(), NoMemory>
-        requires { self.old.input ≡ Some input → AreTablesOf values.now input object.now self.old.numbers_by_symbol.items self.old.marks.items }
-        ensures tables { OnOk result (AreTablesOf values.now input object.now self.new.numbers_by_symbol.items self.new.marks.items) }
+        requires { self.old.input ≡ Some input → AreTablesOf values.now input object.now self.old }
+        ensures tables { OnOk result (AreTablesOf values.now input object.now self.new) }
         ensures at { OnOk result (self.new.input ≡ Some input) }
     {
         if self.is_at(input) {
@@ -74,7 +74,7 @@ impl ObjectTables {
         Ok(())
     }
 
-    /// Learns what the symbols of the relocations of a section of the object have the values, where it is a piece.
+    /// Learns the numbers of the symbols that the relocations of a section of the object go through, if it is a piece.
     fn learn(
         &mut self,
         values: &Values<'_>,
@@ -82,8 +82,8 @@ impl ObjectTables {
         input: u32,
         section: u32,
     ) -> Result<(), NoMemory>
-        requires { AreTablesOf values.now input object.now self.old.numbers_by_symbol.items self.old.marks.items }
-        ensures tables { OnOk result (AreTablesOf values.now input object.now self.new.numbers_by_symbol.items self.new.marks.items) }
+        requires { AreTablesOf values.now input object.now self.old }
+        ensures tables { OnOk result (AreTablesOf values.now input object.now self.new) }
         ensures at { self.new.input ≡ self.old.input }
     {
         if is_marked(&self.marks, section) {
@@ -95,26 +95,21 @@ impl ObjectTables {
         }
     }
 
-    /// Gets ready for a section of an input: turns to its object, and learns what the symbols of its relocations are
-    /// value. Stays where there is no object.
+    /// Gets ready for a section of the object of an input: turns to the object, and learns the numbers of the symbols
+    /// that the relocations of the section go through.
     pub(crate) fn get_ready(
         &mut self,
         values: &Values<'_>,
-        objects: &[Option<Object>],
+        object: &Object,
         input: u32,
         section: u32,
     ) -> Result<(), NoMemory>
-        requires { AreCurrent values.now objects.now self.old.input self.old.numbers_by_symbol.items self.old.marks.items }
-        ensures current { OnOk result (AreCurrent values.now objects.now self.new.input self.new.numbers_by_symbol.items self.new.marks.items) }
-        ensures turned { (bytes : List ℕ) → object_in objects.now input ≡ Some bytes → OnOk result (AreTablesOf values.now input bytes self.new.numbers_by_symbol.items self.new.marks.items) }
+        requires { self.old.input ≡ Some input → AreTablesOf values.now input object.now self.old }
+        ensures tables { OnOk result (AreTablesOf values.now input object.now self.new) }
+        ensures at { OnOk result (self.new.input ≡ Some input) }
     {
-        match object_at(objects, input) {
-            None => Ok(()),
-            Some(object) => {
-                self.turn_to(values, object, input)?;
-                self.learn(values, object, input, section)?;
-                Ok(())
-            }
-        }
+        self.turn_to(values, object, input)?;
+        self.learn(values, object, input, section)?;
+        Ok(())
     }
 }

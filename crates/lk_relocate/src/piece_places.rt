@@ -1,4 +1,4 @@
-//! Where the bytes of a piece are in the file (this project's own).
+//! The place of the bytes of a piece in the file (gABI "Section Header", sh_offset).
 
 ghost use Rattle.std.specs.Prelude.{◌≡◌};
 ghost use Rattle.lk_relocate.specs.Places.{place_in, place_with};
@@ -6,8 +6,8 @@ ghost use Rattle.lk_relocate.specs.Places.{place_in, place_with};
 use lk_model::classes::in_file;
 use lk_model::layouts::{PieceRow, Placement, SectionRow};
 
-/// The place of a piece of a row in a file of `size` bytes, where `count` bytes of it lie there; none where these
-/// are more than the piece has.
+/// The place in a file of `size` bytes at which `count` bytes of a piece of a row begin; none if they are more than the
+/// piece has, or do not lie in the file.
 fn place_with(size: usize, row: &SectionRow, piece: &PieceRow, count: usize) -> Option<usize>
     ensures { result ≡ place_with size row.now piece.now count }
 {
@@ -24,8 +24,8 @@ fn place_with(size: usize, row: &SectionRow, piece: &PieceRow, count: usize) -> 
     }
 }
 
-/// The place in a file of `size` bytes at which `count` bytes of a piece begin; none where the file does not hold
-/// the section of the piece, where they are more than the piece has, or where they do not lie in the file.
+/// The place in a file of `size` bytes at which `count` bytes of a piece begin; none if the file has no bytes of the
+/// piece's output section, or if they are more than the piece has or do not lie in the file.
 pub(crate) fn place_in(
     placement: &Placement,
     size: usize,

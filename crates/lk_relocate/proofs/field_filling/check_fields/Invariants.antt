@@ -1,12 +1,10 @@
 use Rattle.std.proofs.Common.{◌≡◌, ◌++◌, drop}
 use Rattle.lk_model.specs.Views.{Resolved}
 use Rattle.lk_relocate.specs.Faults.{overflows}
-use Rattle.lk_relocate.specs.ObjectsOfInputs.{IsObjectOf}
-use Rattle.lk_relocate.specs.Links.{IsLinkOf}
-use Rattle.lk_relocate.specs.References.{references_by}
+use Rattle.lk_relocate.specs.ObjectSections.{IsSectionOf, references_among}
 use Rattle.lk_relocate.proofs.field_filling.check_fields.Given as goal
 
 abbrev pub invariant-loop-rela : goal.invariant-loop-rela
 invariant-loop-rela l =
-    (r : Resolved) → IsLinkOf l.section.resolution.now l.section.values.now l.section.placement.now r → IsObjectOf r.inputs l.section.input l.section.object.now
-    → l.faults ++ overflows r l.section.placement.now (references_by r l.section.input l.section.object.now l.section.section (drop l.rela-index l.relas)) ≡ l.initial.faults ++ overflows r l.section.placement.now (references_by r l.section.input l.section.object.now l.section.section l.relas)
+    (r : Resolved) → IsSectionOf l.section r
+    → l.faults ++ overflows r l.section.values.now.place (references_among r l.section (drop l.rela-index l.relas)) ≡ l.initial.faults ++ overflows r l.section.values.now.place (references_among r l.section l.relas)
