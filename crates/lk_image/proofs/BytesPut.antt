@@ -1,6 +1,7 @@
 -- Bytes that are put at their places, one after another, are writes.
-use Rattle.std.proofs.Common.{◌≡◌, sym, ap, subst, ◌∙◌}
-use Rattle.std.specs.Prelude.{ℕ, ◌+◌, ◌≤◌, List, [], ◌∷◌, length}
+use Rattle.std.proofs.Common.{◌≡◌, sym, ap, subst, ◌∙◌, arith}
+use Rattle.std.proofs.lemmas.List.{append-nil, drop_all, take_all}
+use Rattle.std.specs.Prelude.{ℕ, ◌+◌, ◌≤◌, List, [], ◌∷◌, ◌++◌, drop, length, take}
 use Rattle.lk_model.specs.Amounts.{round_up}
 use Rattle.lk_model.specs.Images.{seal, seal_offset, stretch}
 use Rattle.lk_model.specs.LinkedBytes.{patch}
@@ -53,3 +54,10 @@ tail_put tail ps hs old mid new parts_are headers_are put_first long put_second 
     second (subst (λ (k : ℕ). tail.headers_at + length tail.headers ≤ k) (sym long) back.0)
     ∙ ap (λ (b : List ℕ). patch b tail.headers_at tail.headers) (first (all_front (EndsWithin (length old)) parts last within))
     ∙ sym (written_in_turn old parts last)
+
+-- bytes written over all bytes of a buffer
+pub whole_put : (size : ℕ) (old new : List ℕ) → length old ≡ size → length new ≡ length old → take size (new ++ drop (length new) old) ≡ new
+whole_put size old new sized same =
+    ap (λ (rest : List ℕ). take size (new ++ rest)) (drop_all (length new) old (omega (arith, same)))
+    ∙ ap (take size) (append-nil new)
+    ∙ take_all size new (omega (arith, sized, same))

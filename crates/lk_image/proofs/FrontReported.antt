@@ -4,6 +4,7 @@ use Rattle.std.specs.Prelude.{ℕ, ◌≤◌, ◌<◌, Bool, List, length, Some,
 use Rattle.lk_elf.specs.Records.{ehdr_bytes}
 use Rattle.lk_report.specs.declared.statuses.LimitFault.{LimitFault}
 use Rattle.lk_report.specs.declared.statuses.LimitKind.TheVariants as limit
+use Rattle.lk_report.specs.declared.statuses.Status.{Status}
 use Rattle.lk_report.specs.declared.statuses.Status.TheVariants as status
 use Rattle.lk_model.specs.FileHeader.{entry_value, exec_stack_of, header_bytes}
 use Rattle.lk_model.specs.Segments.{program_headers}
@@ -19,11 +20,17 @@ use Rattle.lk_headers.specs.TailRows.{rows_of_parts}
 use Rattle.lk_headers.proofs.FieldBytes.{low-long}
 use Rattle.lk_headers.proofs.ModelRows.{front}
 use Rattle.lk_symbol_values.specs.Sections.{low_64}
-use Rattle.lk_image.specs.ImageAnswers.{FrontAnswers, front_status}
+use Rattle.lk_model.specs.LayoutStatuses.{layout_status}
+use Rattle.lk_image.specs.ImageAnswers.{FrontAnswers}
 
 entry_low : (place : Placement) (tail : List SectionRow) (entry : ℕ) (stack : Bool) → front_bytes place tail (low_64 entry) stack ≡ front_bytes place tail entry stack
 unfolding front_bytes front_header ehdr_bytes
 entry_low place tail entry stack = rw (low-long entry) refl
+
+-- the headers, or the fault of their placement as a status
+abbrev pub front_status : Result (List ℕ) LayoutFault → Result (List ℕ) Status
+front_status (Ok front) = Ok front
+front_status (Err f) = Err (layout_status f)
 
 pub front_reported : (r : Resolved) (place : Placement) (parts : List Part) (tail : List SectionRow) (entry : ℕ) (stack : Bool) (given : Result (List ℕ) LayoutFault)
     → FrontGives place tail entry stack given

@@ -1,8 +1,7 @@
 -- An image into which headers, seal, sections and tail of a link are written is laid out.
 use Rattle.std.proofs.Common.{◌≡◌, refl, sym, ap, subst, ◌∙◌, arith}
 use Rattle.std.proofs.lemmas.List.{length-append, length-replicate}
-use Rattle.std.specs.Prelude.{ℕ, ◌+◌, ◌-◌, ◌≤◌, List, [], ◌∷◌, ◌++◌, length, map, replicate, Option, Result, Err}
-use Rattle.lk_report.specs.declared.statuses.Status.{Status}
+use Rattle.std.specs.Prelude.{ℕ, ◌+◌, ◌-◌, ◌≤◌, List, [], ◌∷◌, ◌++◌, length, map, replicate, Option}
 use Rattle.std.specs.List.{AllByRecursion, enumerate_from, flat_map}
 use Rattle.lk_elf.specs.Records.{shdr_bytes}
 use Rattle.lk_model.specs.Answers.{length_with}
@@ -22,11 +21,9 @@ use Rattle.lk_law_writes.proofs.LinkApart.{headers_short, stretches_are_laid}
 use Rattle.lk_law_writes.proofs.LinkWritten.{sealed_link_is_written}
 use Rattle.lk_law_writes.proofs.WrittenBytes.{written_in_turn}
 use Rattle.lk_law_placement.proofs.PiecesLists.{all_back}
-use Rattle.lk_resolve.specs.Settling.{ResolutionValue}
 use Rattle.lk_symbol_values.specs.SymbolNumbering.{ValueInputs}
 use Rattle.lk_image.specs.declared.placed_tails.PlacedTail.{PlacedTail}
-use Rattle.lk_image.specs.ImageAnswers.{FillAnswers, SectionAnswers}
-use Rattle.lk_image.specs.PlacedLinks.{IsFramed, IsWritable}
+use Rattle.lk_image.specs.PlacedLinks.{IsFramed}
 use Rattle.lk_image.specs.Tails.{placed_tail}
 use Rattle.lk_image.specs.Writes.{front_writes, tail_writes}
 
@@ -56,16 +53,17 @@ front_short r place parts layable =
     let zeros = length-replicate {A = ℕ} (seal_offset - length bytes) 0 in
     up_to (length bytes) (length (replicate (seal_offset - length bytes) 0)) (length (up_to_seal bytes)) both zeros short
 
-pub image_written : (resolution : ResolutionValue) (known : ValueInputs) (objects : List (Option (List ℕ))) (r : Resolved) (place : Placement) (parts : List Part) (front : List ℕ) (tail : PlacedTail) (old a b new : List ℕ)
-    → IsFramed resolution known objects r place parts front
-    → tail ≡ placed_tail place parts
-    → old ≡ replicate (length_with place parts) 0
+pub image_written : (known : ValueInputs) (objects : List (Option (List ℕ))) (r : Resolved) (parts : List Part) (front : List ℕ) (tail : PlacedTail) (old a b new : List ℕ)
+    → IsFramed known objects r parts front
+    → tail ≡ placed_tail known.place parts
+    → old ≡ replicate (length_with known.place parts) 0
     → (AllEndWithin (length old) (front_writes front) → a ≡ written old (front_writes front))
     → length b ≡ length old
-    → b ≡ written (written a (piece_stretches r place)) (fill_stretches place)
+    → b ≡ written (written a (piece_stretches r known.place)) (fill_stretches known.place)
     → (AllEndWithin (length b) (tail_writes tail) → new ≡ written b (tail_writes tail))
-    → IsLaidOut (stretches_with r place parts) new
-image_written resolution known objects r place parts front tail old a b new framed tail_is old_is front_put same b_is tail_put =
+    → IsLaidOut (stretches_with r known.place parts) new
+image_written known objects r parts front tail old a b new framed tail_is old_is front_put same b_is tail_put =
+    let place : Placement = known.place in
     let n : ℕ = length_with place parts in
     let rows : List Stretch = flat_map (row_stretches r place) (enumerate_from 0 place.sections) in
     let last : List Stretch = stretch (headers_offset place parts) (flat_map shdr_bytes (section_headers place parts)) ∷ [] in
@@ -87,21 +85,3 @@ image_written resolution known objects r place parts front tail old a b new fram
     ∙ ap (λ (k : List ℕ). written k (tail_stretches place parts)) (b_is ∙ ap (λ (k : List ℕ). written (written k (piece_stretches r place)) (fill_stretches place)) a_is)
     ∙ sym (in_turn (replicate n 0) (sealed_stretches r place parts) (piece_stretches r place) (fill_stretches place) (tail_stretches place parts)) in
     subst (IsLaidOut (stretches_with r place parts)) (sym new_is) (sealed_link_is_written r place parts framed.layable framed.tables)
-
--- the sections of an image can be written, and are refused as the image is
-pub writable : (resolution : ResolutionValue) (known : ValueInputs) (objects : List (Option (List ℕ))) (r : Resolved) (place : Placement) (parts : List Part) (front old a : List ℕ)
-    → IsFramed resolution known objects r place parts front
-    → old ≡ replicate (length_with place parts) 0
-    → length a ≡ length old
-    → IsWritable resolution known objects r place parts (length a)
-writable resolution known objects r place parts front old a framed zeros same = record {
-  linked = framed.linked;
-  whole = same ∙ ap length zeros ∙ length-replicate {A = ℕ} (length_with place parts) 0;
-  short = framed.short;
-}
-
-pub sections_refused : (r : Resolved) (place : Placement) (parts : List Part) (old new image : List ℕ) (s : Status) (result : Result (Unit {0}) Status)
-    → SectionAnswers r place old new (Err s)
-    → result ≡ Err s
-    → FillAnswers r place parts image result
-sections_refused r place parts old new image s result h is = subst (FillAnswers r place parts image) (sym is) h

@@ -1,5 +1,5 @@
 -- This project's own: what is answered of the image of a link at a placement.
-use Rattle.std.specs.Prelude.{◌≡◌, ◌≤◌, ℕ, ◌^◌, length, List, [], Option, Some, None, Result, Ok, Err}
+use Rattle.std.specs.Prelude.{◌≡◌, ◌≤◌, ℕ, ◌^◌, length, List, Option, Some, None, Result, Ok, Err}
 use Rattle.lk_report.specs.declared.statuses.LimitKind.TheVariants as limit
 use Rattle.lk_report.specs.declared.statuses.Status.{Status}
 use Rattle.lk_report.specs.declared.statuses.Status.TheVariants as status
@@ -11,11 +11,8 @@ use Rattle.lk_model.specs.Segments.{program_headers}
 use Rattle.lk_model.specs.Stretches.{IsLaidOut}
 use Rattle.lk_model.specs.Tail.{Part}
 use Rattle.lk_model.specs.Views.{Resolved}
-use Rattle.lk_model.specs.declared.layouts.LayoutFault.{LayoutFault}
-use Rattle.lk_model.specs.declared.layouts.LayoutFault.TheVariants as layout
 use Rattle.lk_model.specs.declared.layouts.Placement.{Placement}
 use Rattle.lk_headers.specs.Front.{up_to_seal}
-use Rattle.lk_law_writes.specs.Written.{fill_stretches, piece_stretches, written}
 
 -- the limit on program headers, and that on the length of an image
 abbrev pub headers_limit : Resolved → Placement → Option Status
@@ -48,32 +45,17 @@ abbrev pub ImageAnswers : Resolved → Placement → Result (List ℕ) Status �
 ImageAnswers r place (Ok image) = (image_refusal r place ≡ None) × IsLaidOut (stretches_of r place) image
 ImageAnswers r place (Err s) = IsRefusal (image_refusal r place) s
 
--- what is answered of the headers at its front, where its tail has these parts
+-- what is answered of the headers at its front, for a tail with these parts
 abbrev pub FrontAnswers : Resolved → Placement → List Part → Result (List ℕ) Status → Type 0
 FrontAnswers r place parts (Ok front) = (length (program_headers place (exec_stack_of r)) ≤ 64) × (front ≡ up_to_seal (header_bytes r place parts))
 FrontAnswers r place parts (Err s) = IsRefusal (headers_limit r place) s
-
--- the headers, or why there are none, as a status
-abbrev pub front_status : Result (List ℕ) LayoutFault → Result (List ℕ) Status
-front_status (Ok front) = Ok front
-front_status (Err (layout.Limit l)) = Err (status.Limit l)
-front_status (Err layout.NoMemory) = Err status.NoMemory
 
 -- of its length
 abbrev pub LengthAnswers : ℕ → Result (Unit {0}) Status → Type 0
 LengthAnswers image_bytes (Ok done) = image_bytes ≤ 2 ^ 29
 LengthAnswers image_bytes (Err s) = IsRefusal (length_limit image_bytes) s
 
--- of its sections in a file: the linked bytes of the pieces are written into it, and the fill of the holes
-abbrev pub SectionAnswers : Resolved → Placement → List ℕ → List ℕ → Result (Unit {0}) Status → Type 0
-SectionAnswers r place old new (Ok done) = (fault_status (overflow_faults r place) ≡ None) × (new ≡ written (written old (piece_stretches r place)) (fill_stretches place))
-SectionAnswers r place old new (Err s) = IsRefusal (fault_status (overflow_faults r place)) s
-
--- of all its bytes in a file of zeros, and as a file, where its tail has these parts
+-- of all its bytes in a file of zeros, for a tail with these parts
 abbrev pub FillAnswers : Resolved → Placement → List Part → List ℕ → Result (Unit {0}) Status → Type 0
 FillAnswers r place parts new (Ok done) = (fault_status (overflow_faults r place) ≡ None) × IsLaidOut (stretches_with r place parts) new
 FillAnswers r place parts new (Err s) = IsRefusal (fault_status (overflow_faults r place)) s
-
-abbrev pub WriteAnswers : Resolved → Placement → List Part → Result (List ℕ) Status → Type 0
-WriteAnswers r place parts (Ok image) = FillAnswers r place parts image (Ok tt)
-WriteAnswers r place parts (Err s) = FillAnswers r place parts [] (Err s)

@@ -1,5 +1,5 @@
--- This project's own: when what code holds of a link is what resolution finds of the inputs of a command, and the
--- placement one whose image is written.
+-- This project's own: when the parts of a link are those that resolution finds of the inputs of a command, and its
+-- placement is one whose image is written.
 use Rattle.std.specs.Prelude.{◌≡◌, ◌≤◌, ◌^◌, ℕ, List, Option}
 use Rattle.std.specs.List.{AllByRecursion}
 use Rattle.lk_report.specs.declared.causes.OptionRecord.{OptionRecord}
@@ -24,7 +24,7 @@ use Rattle.lk_symbol_values.specs.SymbolNumbering.{ValueInputs}
 
 -- a static link without tables at a placement that it may have
 pub record IsPlacedLink (resolution : ResolutionValue) (summaries : List InputSummary) (objects : List (Option (List ℕ))) (options : OptionRecord) (xs : List Input) (place : Placement) : Type 0 where
-  -- the summaries are those of the inputs, and the added ones of these decide what is resolved
+  -- the summaries are those of the inputs, and the resolution is that of the added ones
   pub needs : Needs
   pub given : IsGiven resolution summaries needs options xs
   -- the objects are those of the added inputs
@@ -37,16 +37,10 @@ pub record IsPlacedLink (resolution : ResolutionValue) (summaries : List InputSu
   -- the link needs no table
   pub tables : NeedsNoTables (resolve options xs)
 
--- the sections of a link can be written into a file of so many bytes
-pub record IsWritable (resolution : ResolutionValue) (known : ValueInputs) (objects : List (Option (List ℕ))) (r : Resolved) (place : Placement) (parts : List Part) (size : ℕ) : Type 0 where
-  pub linked : IsLinked resolution known place objects r
-  pub whole : size ≡ length_with place parts
-  pub short : length_with place parts ≤ 2 ^ 29
-
--- and so can its image, with these headers at the front
-pub record IsFramed (resolution : ResolutionValue) (known : ValueInputs) (objects : List (Option (List ℕ))) (r : Resolved) (place : Placement) (parts : List Part) (front : List ℕ) : Type 0 where
-  pub linked : IsLinked resolution known place objects r
-  pub layable : Layable r place
+-- the image of a link can be written, with a tail of these parts and these headers at its front
+pub record IsFramed (known : ValueInputs) (objects : List (Option (List ℕ))) (r : Resolved) (parts : List Part) (front : List ℕ) : Type 0 where
+  pub linked : IsLinked known objects r
+  pub layable : Layable r known.place
   pub tables : NeedsNoTables r
-  pub front_is : front ≡ up_to_seal (header_bytes r place parts)
-  pub short : length_with place parts ≤ 2 ^ 29
+  pub front_is : front ≡ up_to_seal (header_bytes r known.place parts)
+  pub short : length_with known.place parts ≤ 2 ^ 29

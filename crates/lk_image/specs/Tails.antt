@@ -1,5 +1,4 @@
--- The tail of an image at its places (this project's own; gABI "Sections"), and what a link has once its records
--- are made.
+-- The tail of an image at its places (this project's own; gABI "Sections"), and a link whose records are made.
 use Rattle.std.specs.Prelude.{List, map}
 use Rattle.std.specs.List.{flat_map}
 use Rattle.lk_elf.specs.Records.{shdr_bytes}
@@ -30,7 +29,7 @@ placed_tail place parts = record {
 abbrev pub recorded_summary : InputRecord → InputSummary
 recorded_summary x = x.summary
 
--- what a link has once its records are made
+-- a link whose records are made
 abbrev pub described_of : Resolved → Placement → Described
 described_of r place = record {
   summaries = map input_summary r.inputs;

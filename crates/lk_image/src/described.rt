@@ -1,4 +1,4 @@
-//! The records of a link are made and spelled, and taken apart again for the passes that come after them.
+//! The records of a link are made and spelled, and taken apart again for the steps after them.
 
 ghost use Rattle.std.specs.Prelude.{◌≡◌, List, length, map, IfOk};
 ghost use Rattle.lk_model.specs.RecordsOf.{records_of};
@@ -24,8 +24,7 @@ use lk_report::{List, NoMemory, OptionRecord};
 use lk_resolve::Resolution;
 use std::alloc::Global;
 
-/// What a link has once its records are made: the summaries of its inputs, where everything is, and the tail
-/// of its image.
+/// A link whose records are made: the summaries of its inputs, its placement, and the tail of its image.
 #[derive(Drop)]
 pub(crate) struct Described {
     pub(crate) summaries: SummaryList,
@@ -52,7 +51,7 @@ fn summaries_in(alloc: Global, inputs: InputRecordList) -> Result<SummaryList, N
     Ok(summaries)
 }
 
-/// What a link has that has these records.
+/// The link with these records.
 fn take_apart(alloc: Global, records: Records) -> Result<Described, NoMemory>
     ensures { (r : Resolved) (place : Place) → records ≡ records_of r place → IfOk result (λ described. described ≡ described_of r place) }
 {
@@ -71,8 +70,8 @@ fn take_apart(alloc: Global, records: Records) -> Result<Described, NoMemory>
     })
 }
 
-/// Makes the records of a link and the tail of its image. What is given by value is moved into the records and
-/// out of them again.
+/// Makes the records of a link and the tail of its image. The summaries, the references and the placement are moved
+/// into the records, and the summaries and the placement out of them again.
 ///
 /// # Errors
 /// Out of memory.

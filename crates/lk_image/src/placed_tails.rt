@@ -14,13 +14,13 @@ use std::alloc::Global;
 /// The tail of an image. Places are in bytes of the file.
 #[derive(Drop)]
 pub(crate) struct PlacedTail {
-    /// Where it begins: after the last room that the file holds.
+    /// Its place: the end of the last room that has bytes in the file.
     pub(crate) start: u64,
     /// Its parts, each at the next multiple of 8.
     pub(crate) parts: Tail,
     /// The row of each part: its name, its place and its size.
     pub(crate) rows: SectionRowList,
-    /// Where the section headers begin.
+    /// The place of the section headers (gABI "ELF Header", e_shoff).
     pub(crate) headers_at: u64,
     /// The section headers, with which the image ends.
     pub(crate) headers: Bytes,
@@ -31,7 +31,7 @@ pub(crate) struct PlacedTail {
 /// The tail of an image with these parts, behind the sections of a placement.
 ///
 /// # Errors
-/// Out of memory, which also answers an image whose length 64 bits do not hold.
+/// Out of memory, also for an image whose length does not fit 64 bits.
 #[tactic(auto, using(crate::proofs::TailsPlaced::tail_placed))]
 pub(crate) fn place_tail(
     alloc: Global,

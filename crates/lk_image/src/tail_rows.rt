@@ -11,14 +11,15 @@ use lk_model::layouts::{Class, SectionKey, SectionRow, SectionRowList};
 use lk_report::{List, Name, NoMemory};
 use std::alloc::Global;
 
-/// The rows of the parts of a tail, and where the last one ends, in bytes of the file.
+/// The rows of the parts of a tail, and the end of the last one, in bytes of the file.
 #[derive(Drop)]
 pub(crate) struct TailRows {
     pub(crate) rows: SectionRowList,
     pub(crate) end: u64,
 }
 
-/// The place so many bytes after another one. No memory holds a file in which 64 bits do not tell it.
+/// The place `size` bytes after another one; out of memory for one that does not fit 64 bits, since no memory holds
+/// such a file.
 pub(crate) fn place_after(at: u64, size: u64) -> Result<u64, NoMemory>
     ensures { IfOk result (λ place. place ≡ at + size) }
 {
@@ -36,7 +37,7 @@ pub(crate) fn next_multiple(at: u64) -> Result<u64, NoMemory>
     Ok(last / 8 * 8)
 }
 
-/// Where the last room ends that the file holds, or 0.
+/// The end of the last room that has bytes in the file; 0 without one.
 pub(crate) fn file_end(rows: &[SectionRow]) -> Result<u64, NoMemory>
     ensures { IfOk result (λ end. end ≡ file_end rows.now) }
 {

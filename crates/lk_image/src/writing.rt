@@ -11,7 +11,7 @@ use crate::placed_tails::PlacedTail;
 use lk_incr::TailPart;
 use lk_model::images::{SEAL, SEAL_OFFSET};
 
-/// Whether so many bytes from a place on lie in a file of `size` bytes.
+/// Whether `count` bytes at a place lie in a file of `size` bytes.
 fn lies_in(size: usize, at: u64, count: usize) -> bool
     ensures { result ≡ nat_le (at + count) size }
 {
@@ -29,7 +29,7 @@ fn write_at(image: &mut [u8], at: usize, bytes: &[u8])
     image[at..at + bytes.len()].copy_from_slice(bytes);
 }
 
-/// Writes bytes at a place. Where they do not lie in the image nothing is written.
+/// Writes bytes at a place. Bytes that do not lie in the image are not written.
 fn put(image: &mut [u8], at: u64, bytes: &[u8])
     ensures { at + length bytes.now ≤ length image.old → image.new ≡ patch image.old at bytes.now }
 {
@@ -46,7 +46,7 @@ pub(crate) fn put_front(image: &mut [u8], front: &[u8])
     put(image, SEAL_OFFSET as u64, SEAL);
 }
 
-/// Writes a part of the tail at the next multiple of 8 after a place; where it ends.
+/// Writes a part of the tail at the next multiple of 8 after a place, and returns its end.
 fn put_part(image: &mut [u8], after: u64, bytes: &[u8]) -> u64
     ensures put { round_up after 8 + length bytes.now ≤ length image.old → image.new ≡ patch image.old (round_up after 8) bytes.now }
     ensures end { round_up after 8 + length bytes.now ≤ length image.old → result ≡ round_up after 8 + length bytes.now }

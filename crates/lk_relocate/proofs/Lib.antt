@@ -1,7 +1,5 @@
 pub mod Lists
 pub mod Widths
-pub mod Items
-pub mod MarksReported
 pub mod NumbersReported
 pub mod SymbolNumbersReported
 pub mod TablesReported

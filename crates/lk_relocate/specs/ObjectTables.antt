@@ -11,7 +11,7 @@ use Rattle.lk_relocate.specs.NumbersOfSymbols.{AreNumbersOf}
 -- the tables are those of an object with these bytes, which is the input with this number
 pub record AreTablesOf (known : ValueInputs) (n : ℕ) (bytes : List ℕ) (tables : ObjectTables) : Type 0 where
   pub numbers_by_symbol_are : AreNumbersOf known n bytes tables.numbers_by_symbol.items
-  pub marks_are : AreMarksOf tables.marks.items (summary_in (elf_of bytes)).pieces
+  pub marks_are : AreMarksOf tables.marks (summary_in (elf_of bytes)).pieces
 
 -- the tables are those of the object of their input, if it has one
 abbrev pub AreCurrent : ValueInputs → List (Option (List ℕ)) → ObjectTables → Type 0

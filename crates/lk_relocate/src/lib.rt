@@ -14,7 +14,6 @@
 #![tactic(auto)]
 
 mod field_filling;
-mod growing;
 mod linking;
 mod numbers_of_symbols;
 mod object_sections;

@@ -7,8 +7,8 @@ ghost use Rattle.lk_model.specs.References.{number_of_name};
 ghost use Rattle.lk_symtab.specs.NameRows.{all_symbols};
 ghost use Rattle.lk_relocate.specs.NumbersOfSymbols.{AreNumbersOf, AreNumbersAt, symbol_numbers_at};
 
-use crate::growing::make_room;
 use lk_elf::Rela;
+use lk_marks::make_room;
 use lk_obj_read::Object;
 use lk_report::{Name, NoMemory};
 use lk_symbol_values::{SymbolNumbers, Values};

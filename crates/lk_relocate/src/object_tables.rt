@@ -9,7 +9,8 @@ ghost use Rattle.lk_relocate.specs.ObjectsOfInputs.{object_in};
 ghost use Rattle.lk_relocate.specs.ObjectTables.{AreCurrent, AreTablesOf};
 
 use crate::numbers_of_symbols::{NumbersOfSymbols, learn_symbols};
-use crate::piece_marks::{PieceMarks, is_marked, mark_pieces};
+use crate::piece_marks::mark_pieces;
+use lk_marks::Marks;
 use lk_obj_read::Object;
 use lk_report::NoMemory;
 use lk_symbol_values::Values;
@@ -23,7 +24,7 @@ pub(crate) struct ObjectTables {
     /// The numbers of its symbols, as far as its relocations asked for them.
     pub(crate) numbers_by_symbol: NumbersOfSymbols,
     /// Which of its sections are its pieces.
-    pub(crate) marks: PieceMarks,
+    pub(crate) marks: Marks,
 }
 
 /// The object of the input with a number, if it has one.
@@ -45,7 +46,7 @@ impl ObjectTables {
         ObjectTables {
             input: None,
             numbers_by_symbol: Vec::new(alloc),
-            marks: Vec::new(alloc),
+            marks: Marks::new(alloc),
         }
     }
 
@@ -86,7 +87,7 @@ impl ObjectTables {
         ensures tables { OnOk result (AreTablesOf values.now input object.now self.new) }
         ensures at { self.new.input ≡ self.old.input }
     {
-        if is_marked(&self.marks, section) {
+        if self.marks.is_marked(section) {
             let relas = object.relocations(section).as_slice();
             learn_symbols(&mut self.numbers_by_symbol, values, object, input, relas)?;
             Ok(())

@@ -12,7 +12,6 @@ ghost use Rattle.lk_relocate.specs.ObjectSections.{IsReady, IsSectionOf, referen
 
 use crate::field_filling::{check_fields, fill_fields};
 use crate::object_sections::ObjectSection;
-use crate::piece_marks::is_marked;
 use crate::piece_places::place_in;
 use lk_elf::Rela;
 use lk_model::layouts::PieceRow;
@@ -54,7 +53,7 @@ pub(crate) fn link_section(
     ensures linked { (r : Resolved) → IsSectionOf section.now r → OnOk result (image.new ≡ with_section r section.now piece.now image.old) }
     ensures reported { (r : Resolved) → IsSectionOf section.now r → OnOk result (faults.new ≡ faults.old ++ overflows r section.now.values.now.place (references_among r section.now (section_relocations section.now))) }
 {
-    if is_marked(&section.tables.marks, section.section) {
+    if section.tables.marks.is_marked(section.section) {
         let bytes = section.object.piece_bytes(section.section);
         let relas = section.object.relocations(section.section).as_slice();
         match place_in(section.values.placement(), image.len(), piece, bytes.len()) {

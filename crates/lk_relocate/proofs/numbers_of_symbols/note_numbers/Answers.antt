@@ -1,5 +1,5 @@
 use Rattle.std.proofs.Common.{None, Some, refl}
-use Rattle.lk_relocate.proofs.Items.{written}
+use Rattle.lk_marks.proofs.Items.{written}
 use Rattle.lk_relocate.proofs.numbers_of_symbols.note_numbers.Goals as goal
 
 pub returns : goal.returns
