@@ -13,7 +13,6 @@ use Rattle.lk_model.specs.declared.layouts.SectionRow.{SectionRow}
 use Rattle.lk_model.specs.declared.layouts.TlsSegment.{TlsSegment}
 use Rattle.lk_law_placement.proofs.DistinctLists.{all_joined}
 use Rattle.lk_law_loading.proofs.HeadersFound.{NoneOf, before_loads, behind_loads, dynamic_headers, in_groups, interp_headers, loads}
-use Rattle.lk_law_loads.specs.TakenImages.{HasNoDynamic}
 
 -- ---- headers of other types
 
@@ -55,6 +54,10 @@ no_load_behind place exec_stack =
 
 -- ---- images without a dynamic section
 
+-- no section of a placement is the dynamic section
+abbrev pub HasNoDynamic : Placement → Type 0
+HasNoDynamic place = AllByRecursion (λ (row : SectionRow). same_key row.key (named (codes ".dynamic") W) ≡ false) place.sections
+
 no_row : (rows : List SectionRow) → AllByRecursion (λ (row : SectionRow). same_key row.key (named (codes ".dynamic") W) ≡ false) rows → filter (λ (row : SectionRow). same_key row.key (named (codes ".dynamic") W)) rows ≡ []
 no_row [] none = refl
 no_row (row ∷ rows) none = rw (none.0) (no_row rows none.1)
@@ -62,7 +65,7 @@ no_row (row ∷ rows) none = rw (none.0) (no_row rows none.1)
 no_dynamic : (place : Placement) → HasNoDynamic place → NoneOf 2 (dynamic_headers place)
 no_dynamic place none = subst (λ (rows : List SectionRow). NoneOf 2 (map (section_header_of pt_dynamic (pf_r + pf_w)) rows)) (sym (no_row place.sections none)) tt
 
-none_second : (place : Placement) (rows : List SectionRow) → NoneOf 2 (second_load place rows)
+pub none_second : (place : Placement) (rows : List SectionRow) → NoneOf 2 (second_load place rows)
 none_second place [] = tt
 none_second place (row ∷ rows) = (refl, tt)
 

@@ -1,4 +1,4 @@
--- A loader takes the images of static links.
+-- A loader takes the images of links.
 use Rattle.std.specs.Prelude.{◌≡◌, ℕ, Bool, true, false, not, List, [], ◌∷◌, ◌++◌, Option, Some, None, ◌+◌, ◌*◌, ◌≤◌, ◌==◌, ◌&&◌, ◌||◌, IsTrue, find, flat_map, is_none, is_some, length, refl}
 use Rattle.std.specs.Bool.{then_some}
 use Rattle.std.specs.List.{AllByRecursion, enumerate_from, list_any}
@@ -13,7 +13,7 @@ use Rattle.lk_model.specs.DynamicKeys.{dynamic_key}
 use Rattle.lk_model.specs.Elf.{lies_in}
 use Rattle.lk_model.specs.FileHeader.{exec_stack_of}
 use Rattle.lk_model.specs.FullPlace.{full_place, table_size}
-use Rattle.lk_model.specs.Images.{stretches_of}
+use Rattle.lk_model.specs.Images.{stretches_of, stretches_with}
 use Rattle.lk_model.specs.Inputs.{inputs_of}
 use Rattle.lk_model.specs.InputsReading.{with_value}
 use Rattle.lk_model.specs.Lawful.{Lawful, is_no_strange_table}
@@ -23,7 +23,8 @@ use Rattle.lk_model.specs.Loads.{LoadRefusal, byte_in_memory, header_refusals, i
 use Rattle.lk_model.specs.SectionKeys.{is_table, same_key}
 use Rattle.lk_model.specs.SectionOrder.{table_sizes}
 use Rattle.lk_model.specs.Segments.{program_headers}
-use Rattle.lk_model.specs.Tail.{tail_parts}
+use Rattle.lk_model.specs.Stretches.{IsLaidOut}
+use Rattle.lk_model.specs.Tail.{Part, tail_parts}
 use Rattle.lk_model.specs.Views.{KeptPiece, Resolved}
 use Rattle.lk_model.specs.WholeLinks.{whole_stretches_of}
 use Rattle.lk_model.specs.WholeTail.{whole_parts}
@@ -37,11 +38,13 @@ use Rattle.lk_model.proofs.Rising.{all_map}
 use Rattle.lk_law_placement.proofs.DistinctLists.{none_of_all}
 use Rattle.lk_law_placement.proofs.SoundInputsKept.{inputs_without_faults, pieces_of_sound_inputs}
 use Rattle.lk_law_placement.specs.SoundPieces.{SoundPiece, SoundPieces}
+use Rattle.lk_law_loading.specs.Loadable.{Loadable}
 use Rattle.lk_law_loading.proofs.FullLoaded.{inputs_are_loadable, link_is_loaded, whole_link_is_loaded}
 use Rattle.lk_law_loading.proofs.PiecesLoaded.{headers_are_read}
-use Rattle.lk_law_loads.specs.TakenImages.{HasNoDynamic, HeadersAreTaken, StaticIsTaken, StaticLinkIsTaken, StaticWholeLinkIsTaken}
+use Rattle.lk_law_loads.specs.TakenImages.{HeadersAreTaken, KeepsNoTable, LinkIsTaken, PlacesAreTaken, WholeLinkIsTaken}
+use Rattle.lk_law_loads.proofs.DynamicTaken.{dynamic_named}
 use Rattle.lk_law_loads.proofs.FrontRead.{executable, front_inside, table_place, tail_inside}
-use Rattle.lk_law_loads.proofs.HeaderTypes.{no_dynamic_header}
+use Rattle.lk_law_loads.proofs.HeaderTypes.{HasNoDynamic, no_dynamic_header}
 use Rattle.lk_law_loads.proofs.HeadersInFile.{EndsIn, headers_end}
 use Rattle.lk_law_loads.proofs.LoadsApart.{loads_apart}
 
@@ -106,29 +109,30 @@ unfolding named_by counted_entries
 nothing_named memory None e = refl
 nothing_named memory (Some h) e = absurd (cc)
 
-taken : (image : List ℕ) → first_fault (load_checks image) ≡ None → find (λ (h : Phdr). h.p_type == 2) (headers_in image) ≡ None → load_refusal image ≡ None
-unfolding load_refusal named_in
-taken image checks none =
-    let named = nothing_named (byte_in_memory image (headers_in image)) (find (λ (h : Phdr). h.p_type == 2) (headers_in image)) none in
-    rw checks (ap (λ b. then_some b LoadRefusal.BadDynamic) named)
+taken : (image : List ℕ) → first_fault (load_checks image) ≡ None → is_none (named_in image) ≡ false → load_refusal image ≡ None
+unfolding load_refusal
+taken image checks named = rw checks (ap (λ b. then_some b LoadRefusal.BadDynamic) named)
 
-pub static_is_taken : StaticIsTaken
-static_is_taken r place tail image l none laid =
-    taken image (headers_are_taken r place tail image l laid)
-    (ap (find (λ (h : Phdr). h.p_type == 2)) (headers_are_read r place tail image l laid) ∙ no_dynamic_header place (exec_stack_of r) none)
+none_named : (image : List ℕ) → find (λ (h : Phdr). h.p_type == 2) (headers_in image) ≡ None → is_none (named_in image) ≡ false
+unfolding named_in
+none_named image none = nothing_named (byte_in_memory image (headers_in image)) (find (λ (h : Phdr). h.p_type == 2) (headers_in image)) none
 
--- ---- links without a shared input
+static_named : (r : Resolved) (place : Placement) (tail : List Part) (image : List ℕ) → Loadable r place → HasNoDynamic place → IsLaidOut (stretches_with r place tail) image → is_none (named_in image) ≡ false
+static_named r place tail image l none laid =
+    none_named image (ap (find (λ (h : Phdr). h.p_type == 2)) (headers_are_read r place tail image l laid) ∙ no_dynamic_header place (exec_stack_of r) none)
+
+-- ---- static links have none
 
 static_size : (r : Resolved) (slots : SlotTable) → r.options.dynamic ≡ false → is_some (table_size r slots dynamic_key) ≡ false
 unfolding table_sizes
 static_size r slots e = rw e refl
 
-not_dynamic_piece : (piece : KeptPiece) → SoundPiece piece → same_key piece.key dynamic_key ≡ false
-not_dynamic_piece piece sound =
+not_dynamic_piece : (piece : KeptPiece) → is_table piece.key ≡ false → same_key piece.key dynamic_key ≡ false
+not_dynamic_piece piece no_table =
     false_from_ne_true (same_key piece.key dynamic_key)
-    (λ e. let same = same_key_reports piece.key dynamic_key e in both_ways (is_table piece.key) sound.no_table (ap is_table same))
+    (λ e. let same = same_key_reports piece.key dynamic_key e in both_ways (is_table piece.key) no_table (ap is_table same))
 
-no_dynamic_row : (r : Resolved) (place : Placement) → SoundPieces r → r.options.dynamic ≡ false → (row : SectionRow) → IsTrue (is_no_strange_table r place.slots row) → same_key row.key dynamic_key ≡ false
+no_dynamic_row : (r : Resolved) (place : Placement) → KeepsNoTable r → r.options.dynamic ≡ false → (row : SectionRow) → IsTrue (is_no_strange_table r place.slots row) → same_key row.key dynamic_key ≡ false
 no_dynamic_row r place sound static row known =
     false_from_ne_true (same_key row.key dynamic_key)
     (λ e.
@@ -140,28 +144,45 @@ no_dynamic_row r place sound static row known =
     let none : (not (is_table dynamic_key) || is_some (table_size r place.slots dynamic_key) || list_any (λ (piece : KeptPiece). same_key piece.key dynamic_key) r.kept) ≡ false = rw (size, pieces) refl in
     both_ways (not (is_table dynamic_key) || is_some (table_size r place.slots dynamic_key) || list_any (λ (piece : KeptPiece). same_key piece.key dynamic_key) r.kept) none all)
 
-no_dynamic_section : (r : Resolved) (place : Placement) → Lawful r place → SoundPieces r → r.options.dynamic ≡ false → HasNoDynamic place
+no_dynamic_section : (r : Resolved) (place : Placement) → Lawful r place → KeepsNoTable r → r.options.dynamic ≡ false → HasNoDynamic place
 no_dynamic_section r place l sound static =
     all_map {Q = λ (row : SectionRow). same_key row.key dynamic_key ≡ false} (λ row known. no_dynamic_row r place sound static row known) place.sections l.no_other_tables
 
-pub static_link_is_taken : StaticLinkIsTaken
+-- ---- links of either kind
+
+pub places_are_taken : PlacesAreTaken
+places_are_taken r place tail image l no_tables laid = go r.options.dynamic refl
+  where
+    go : (b : Bool) → r.options.dynamic ≡ b → load_refusal image ≡ None
+    go true e =
+        taken image (headers_are_taken r place tail image l laid)
+        (dynamic_named r place tail image (record { loadable = l; no_pieces = no_tables; laid = laid }) e)
+    go false e =
+        taken image (headers_are_taken r place tail image l laid)
+        (static_named r place tail image l (no_dynamic_section r place l.lawful no_tables e) laid)
+
+-- sound pieces are of no section that the link makes
+no_tables_kept : (r : Resolved) → SoundPieces r → KeepsNoTable r
+no_tables_kept r sound = all_map {P = SoundPiece} {Q = λ (piece : KeptPiece). is_table piece.key ≡ false} (λ piece sound. sound.no_table) r.kept sound
+
+pub link_is_taken : LinkIsTaken
 unfolding stretches_of resolved_of
-static_link_is_taken command files image none static limits laid =
+link_is_taken command files image none limits laid =
     let r = resolved_of command files in
     let sound = inputs_without_faults command files none in
     let l = inputs_are_loadable command.options (inputs_of command files) sound limits in
     record {
-      taken = static_is_taken r (full_place r) (tail_parts r (full_place r)) image l (no_dynamic_section r (full_place r) l.lawful (pieces_of_sound_inputs command.options (inputs_of command files) sound) static) laid;
+      taken = places_are_taken r (full_place r) (tail_parts r (full_place r)) image l (no_tables_kept r (pieces_of_sound_inputs command.options (inputs_of command files) sound)) laid;
       loaded = link_is_loaded command files image none limits laid;
     }
 
-pub static_whole_link_is_taken : StaticWholeLinkIsTaken
+pub whole_link_is_taken : WholeLinkIsTaken
 unfolding whole_stretches_of resolved_of
-static_whole_link_is_taken command files image none static limits laid =
+whole_link_is_taken command files image none limits laid =
     let r = resolved_of command files in
     let sound = inputs_without_faults command files none in
     let l = inputs_are_loadable command.options (inputs_of command files) sound limits in
     record {
-      taken = static_is_taken r (full_place r) (whole_parts r (full_place r)) image l (no_dynamic_section r (full_place r) l.lawful (pieces_of_sound_inputs command.options (inputs_of command files) sound) static) laid;
+      taken = places_are_taken r (full_place r) (whole_parts r (full_place r)) image l (no_tables_kept r (pieces_of_sound_inputs command.options (inputs_of command files) sound)) laid;
       loaded = whole_link_is_loaded command files image none limits laid;
     }

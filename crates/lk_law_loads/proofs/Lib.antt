@@ -3,3 +3,8 @@ pub mod HeadersInFile
 pub mod LoadsApart
 pub mod FrontRead
 pub mod ImagesTaken
+pub mod TablesLoaded
+pub mod RecordsBack
+pub mod EntriesRead
+pub mod NamesClosed
+pub mod DynamicTaken
