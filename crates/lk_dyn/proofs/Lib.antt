@@ -1,3 +1,7 @@
 pub mod Numbers
 pub mod ChainsMade
 pub mod PutInTurn
+pub mod SymbolsNumbered
+pub mod RelocationsPut
+pub mod NamesLookedUp
+pub mod CallsAt

@@ -1,2 +1,6 @@
 pub mod LowBits
 pub mod HashWords
+pub mod DynsymNumbers
+pub mod JumpSlots
+pub mod HashLookUps
+pub mod CallLaws

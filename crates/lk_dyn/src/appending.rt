@@ -3,7 +3,9 @@
 ghost use Rattle.std.specs.Prelude.{◌≡◌, ◌++◌, OnOk};
 ghost use Rattle.std.specs.List.{flat_map};
 ghost use Rattle.lk_elf.specs.Fields.{bytes_of};
+ghost use Rattle.lk_elf.specs.Records.{rela_bytes};
 
+use lk_elf::Rela;
 use lk_report::NoMemory;
 
 /// Puts bytes at the end.
@@ -54,4 +56,13 @@ pub(crate) fn put_words(out: &mut Vec<u8>, words: &[usize]) -> Result<(), NoMemo
         put_word(out, *word as u64)?;
     }
     Ok(())
+}
+
+/// Puts a relocation with an addend at the end (gABI "Relocation").
+pub(crate) fn put_rela(out: &mut Vec<u8>, rela: &Rela) -> Result<(), NoMemory>
+    ensures { OnOk result (out.new.items ≡ out.old.items ++ rela_bytes rela.now) }
+{
+    let mut bytes = [0u8; 24];
+    rela.write_at(&mut bytes, 0);
+    put_bytes(out, &bytes)
 }

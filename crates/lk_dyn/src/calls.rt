@@ -16,7 +16,7 @@ use std::alloc::Global;
 
 /// The address of the slot through which an entry jumps, by the entry's number and the address of the GOT;
 /// three words before the first are the dynamic linker's.
-fn jump_slot(got: u64, number: usize) -> u64
+pub(crate) fn jump_slot(got: u64, number: usize) -> u64
     ensures { result ≡ low_64 (jump_slot_address got number) }
 {
     low_64(u128::from(got) + 8 * (3 + number as u128))
