@@ -1,5 +1,5 @@
 -- Entries that go to the heads of their buckets in turn make the chains of lk_model's hash table.
-use Rattle.std.proofs.Common.{◌≡◌, ℕ, zero, suc, ◌+◌, ◌%◌, ◌<◌, ◌≤◌, ◌==◌, true, false, if◌then◌else◌, List, [], ◌∷◌, ◌++◌, map, length, take, fold, refl, ap, sym, ◌∙◌, ◌≢◌, arith, mod-lt}
+use Rattle.std.proofs.Common.{◌≡◌, ℕ, zero, suc, ◌+◌, ◌%◌, ◌<◌, ◌≤◌, ◌==◌, true, false, if◌then◌else◌, List, [], ◌∷◌, ◌++◌, map, length, take, refl, ap, sym, ◌∙◌, ◌≢◌, arith, mod-lt}
 use Rattle.lk_elf.specs.Fields.{bytes_of}
 use Rattle.std.specs.Prelude.{slice_set, get_or, replicate, flat_map}
 use Rattle.std.specs.List.{enumerate_from, range_with_len}

@@ -1,7 +1,7 @@
 -- The words of the hash table of the dynamic symbols by the hashes of their names (gABI "Hash Table").
-use Rattle.std.specs.Prelude.{ℕ, ◌+◌, ◌*◌, ◌%◌, ◌^◌, List, [], ◌∷◌, ◌++◌, length, map, flat_map, slice_get}
+use Rattle.std.specs.Prelude.{ℕ, ◌+◌, ◌*◌, ◌%◌, ◌^◌, List, ◌∷◌, ◌++◌, length, map}
 use Rattle.std.specs.List.{enumerate_from, range_with_len}
-use Rattle.lk_model.specs.HashTable.{bucket_count, chain_after, last_entry, sysv_hash}
+use Rattle.lk_model.specs.HashTable.{bucket_count, chain_after, last_entry}
 
 -- a hash with four bits made free at its bottom for a character, in 32 bits
 abbrev pub shifted_by : ℕ → ℕ → ℕ

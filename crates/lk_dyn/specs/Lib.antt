@@ -3,3 +3,4 @@ pub mod HashWords
 pub mod DynsymNumbers
 pub mod JumpSlots
 pub mod HashLookUps
+pub mod CallLaws

@@ -6,6 +6,9 @@
 //!
 //! Callers rely on one law: the look-up of the gABI finds each dynamic name in `.hash`, and no other
 //! (`look_ups_find_each_name`).
+//! Callers rely on two laws: the look-up of the gABI finds each dynamic name in `.hash`, and no other
+//! (`look_ups_find_each_name`); each entry of `.plt` jumps by its slot in `.got.plt`, which leads back to the
+//! entry (`entries_jump_by_their_slots`).
 #![tactic(auto)]
 
 mod appending;
@@ -13,6 +16,7 @@ mod calls;
 mod dynsym_numbers;
 mod hash_tables;
 mod hashing;
+mod interpreters;
 mod laws;
 mod low_bits;
 mod relocations;
@@ -26,3 +30,5 @@ pub use hashing::sysv_hash;
 pub use laws::look_ups_find_each_name;
 pub use relocations::rela_plt_table;
 pub use texts::{interp_table, text_table};
+pub use interpreters::interp_table;
+pub use laws::{entries_jump_by_their_slots, look_ups_find_each_name};

@@ -1,5 +1,5 @@
 use Rattle.std.proofs.Common.{◌∙◌, ap, sym, length, arith}
-use Rattle.std.specs.Prelude.{◌≡◌, ◌+◌, ◌++◌, ℕ}
+use Rattle.std.specs.Prelude.{◌+◌, ◌++◌, ℕ}
 use Rattle.lk_elf.specs.Fields.{bytes_of}
 use Rattle.lk_model.specs.PltEntries.{plt_entry_address}
 use Rattle.lk_model.specs.Tables.{got_plt_bytes, jump_bytes}
