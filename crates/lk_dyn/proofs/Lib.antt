@@ -1,7 +1,6 @@
 pub mod Numbers
 pub mod ChainsMade
 pub mod PutInTurn
-pub mod TextsPut
 pub mod SymbolsNumbered
 pub mod RelocationsPut
 pub mod NamesLookedUp

@@ -1,7 +1,7 @@
 -- The walk of a chain finds the name.
 use Rattle.std.proofs.Common.{◌≡◌, ℕ, zero, suc, ◌+◌, ◌-◌, ◌%◌, ◌<◌, ◌≤◌, ◌==◌, ◌||◌, Bool, true, false, true≢false, cond, List, [], ◌∷◌, ◌++◌, map, filter, length, reverse, drop, Option, Some, None, slice_get, refl, ap, sym, ◌∙◌, subst, arith, mod-lt, inl, inr}
 use Rattle.std.specs.Prelude.{find, MatchOption}
-use Rattle.std.specs.List.{AllByRecursion, count_by, enumerate_from, list_any, range_with_len}
+use Rattle.std.specs.List.{AllByRecursion, enumerate_from, list_any, range_with_len}
 use Rattle.std.specs.Str.{bytes_eq}
 use Rattle.std.proofs.lemmas.Bool.{cases_eq}
 use Rattle.std.proofs.lemmas.Bool.Decides.{nat_tests}
@@ -9,7 +9,7 @@ use Rattle.std.proofs.lemmas.Slice.Eq.{bytes_eq-Decides}
 use Rattle.std.proofs.lemmas.List.{reverse-append, reverse-reverse, length-reverse, length-map}
 use Rattle.std.proofs.lemmas.List.FromFn.{length-enumerate_from}
 use Rattle.std.proofs.lemmas.List.Sums.{length-filter, count_by-le-length}
-use Rattle.lk_model.specs.HashTable.{bucket_count, bucket_word, buckets_of, chain_word, entries_in, entry_count, sysv_hash, IsChain, IsHashTable}
+use Rattle.lk_model.specs.HashTable.{bucket_count, bucket_word, buckets_of, chain_word, entries_in, entry_count, sysv_hash, IsChain}
 use Rattle.lk_dyn.specs.HashLookUps.{is_entry_of, look_up, walk, FindsEachName}
 
 abbrev Entry : Type 0

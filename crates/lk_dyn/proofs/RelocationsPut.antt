@@ -1,9 +1,8 @@
 -- The bytes of relocations by the low bits of their fields.
-use Rattle.std.proofs.Common.{◌≡◌, ℕ, ℤ, ◌+◌, ◌*◌, ◌^◌, pos, List, [], ◌∷◌, map, refl, ap, sym, ◌∙◌, ◌++◌, Option, Some, None}
+use Rattle.std.proofs.Common.{◌≡◌, ℕ, ℤ, List, [], ◌∷◌, map, refl, ap, sym, ◌∙◌, ◌++◌, Option, Some, None}
 use Rattle.std.specs.Prelude.{flat_map}
 use Rattle.std.specs.List.{enumerate_from}
 use Rattle.lk_elf.specs.Records.{rela_bytes}
-use Rattle.lk_elf.specs.declared.relocation.Rela.{Rela}
 use Rattle.lk_model.specs.DynamicNames.{dynamic_names}
 use Rattle.lk_model.specs.DynamicRelocations.{jump_relocation, rela_plt_bytes, rela_plt_entries}
 use Rattle.lk_model.specs.SymbolValues.{got_address}

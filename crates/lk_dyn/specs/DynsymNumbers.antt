@@ -1,5 +1,5 @@
 -- This project's own: the table of the numbers of dynamic symbols.
-use Rattle.std.specs.Prelude.{◌≡◌, ℕ, ◌+◌, ◌==◌, nat_eq, cond, List, [], ◌∷◌, Option, Some, None, length}
+use Rattle.std.specs.Prelude.{◌≡◌, ℕ, ◌+◌, ◌==◌, nat_eq, cond, List, [], ◌∷◌, Option, Some, None}
 use Rattle.std.specs.Map.{lookup}
 
 -- the number that the entries have for a name

@@ -8,6 +8,7 @@ pub fn look_ups_find_each_name()
     ensures table { WordsAreATable }
     ensures found { FindsEachName }
 {}
+
 /// Each entry of `.plt` jumps by its slot, and its slot in `.got.plt` leads back to the entry's second
 /// instruction until the dynamic linker fills it (psABI x86-64 "Procedure Linkage Table").
 pub fn entries_jump_by_their_slots()

@@ -4,8 +4,6 @@
 //! which may be that of an update; out come the bytes of each table. Contracts are said in lk_model's
 //! definitions of the tables. Each name, slot and entry is looked at a fixed number of times.
 //!
-//! Callers rely on one law: the look-up of the gABI finds each dynamic name in `.hash`, and no other
-//! (`look_ups_find_each_name`).
 //! Callers rely on two laws: the look-up of the gABI finds each dynamic name in `.hash`, and no other
 //! (`look_ups_find_each_name`); each entry of `.plt` jumps by its slot in `.got.plt`, which leads back to the
 //! entry (`entries_jump_by_their_slots`).
@@ -21,14 +19,11 @@ mod laws;
 mod low_bits;
 mod relocations;
 mod sections;
-mod texts;
 
 pub use calls::{got_plt_table, plt_table};
 pub use dynsym_numbers::DynsymNumbers;
 pub use hash_tables::hash_table;
 pub use hashing::sysv_hash;
-pub use laws::look_ups_find_each_name;
-pub use relocations::rela_plt_table;
-pub use texts::{interp_table, text_table};
 pub use interpreters::interp_table;
 pub use laws::{entries_jump_by_their_slots, look_ups_find_each_name};
+pub use relocations::rela_plt_table;

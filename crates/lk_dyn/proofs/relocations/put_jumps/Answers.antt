@@ -1,4 +1,3 @@
-use Rattle.std.proofs.Common.{ap, refl}
 use Rattle.std.proofs.Common.{refl}
 use Rattle.std.specs.Prelude.{◌++◌, flat_map, get_or}
 use Rattle.std.specs.List.{enumerate_from}
