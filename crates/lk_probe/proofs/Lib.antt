@@ -2,3 +2,4 @@ pub mod FirstHeaders
 pub mod InputsPlaced
 pub mod CommandPlaced
 pub mod TextSaid
+pub mod TextsPut

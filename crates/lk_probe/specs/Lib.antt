@@ -1,3 +1,4 @@
+pub mod SharedFacts
 pub mod Judging
 pub mod ResolutionTexts
 pub mod Laying

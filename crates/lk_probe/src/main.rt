@@ -1,7 +1,8 @@
 //! A program for developers, and for whoever wants objects validated or wants to know what a link is made of.
 //!
-//! `lk_probe read FILE` says `object` with the numbers of the file's sections and symbols, or its first fault
-//! as the linker would tell it. `lk_probe resolve WORDS`, of the words of a link, says which inputs are added,
+//! `lk_probe read FILE` says `object` with the numbers of the file's sections and symbols, or `shared object` with its
+//! name, the names of the files that it needs and the numbers of its symbols by kind, or the file's first fault as
+//! the linker reports it. `lk_probe resolve WORDS`, of the words of a link, says which inputs are added,
 //! in adding order, and how many names there are, or what the linker would tell of the words and the inputs
 //! before it looks at relocations. `lk_probe layout WORDS` says where a link of these words, made anew, puts its
 //! output sections, and how many pieces it keeps, or what the linker would tell before it has an image. It ends
@@ -21,6 +22,8 @@ mod reading;
 mod resolution_texts;
 mod rows;
 mod saying;
+mod shared_facts;
+mod shared_texts;
 mod writing;
 
 use answering::answer_to;
