@@ -3,3 +3,4 @@ pub mod InputsPlaced
 pub mod CommandPlaced
 pub mod TextSaid
 pub mod CommandsResolved
+pub mod TextsPut

@@ -1,17 +1,21 @@
 -- What is said of the file of a path (this project's own): of an object the numbers of its section headers and
--- of the entries of its symbol table; its first fault, or its length, as the linker reports them; that there is
--- no file.
+-- of the entries of its symbol table, of a shared object its facts; its first fault, or its length, as the linker
+-- reports them; that there is no file.
 use Rattle.std.specs.Prelude.{◌≡◌, ◌<◌, ◌≤◌, ℕ, ◌^◌, List, [], ◌∷◌, ◌++◌, codes, length, Some, None, option_map, Result, Ok, Err}
 use Rattle.std.specs.Fmt.{decimal}
 use Rattle.lk_report.specs.FileMap.{FileMap}
 use Rattle.lk_report.specs.declared.faults.Fault.{Fault}
 use Rattle.lk_report.specs.declared.faults.Fault.TheVariants as fault
+use Rattle.lk_report.specs.declared.faults.InputFault.{InputFault}
 use Rattle.lk_report.specs.declared.statuses.LimitKind.TheVariants as limit
 use Rattle.lk_report.specs.declared.statuses.Status.{Status}
 use Rattle.lk_report.specs.declared.statuses.Status.TheVariants as status
-use Rattle.lk_model.specs.ObjectChecks.{object_fault}
+use Rattle.lk_model.specs.declared.summaries.Kind.{Kind}
+use Rattle.lk_model.specs.declared.summaries.Kind.TheVariants as kind
+use Rattle.lk_model.specs.Kinds.{kind_of}
 use Rattle.lk_inputs.specs.FileAnswers.{content_at}
-use Rattle.lk_probe.specs.Judging.{headers_in, symbol_count}
+use Rattle.lk_probe.specs.Judging.{headers_in, read_fault, symbol_count}
+use Rattle.lk_probe.specs.SharedFacts.{facts_of, shared_text}
 
 -- what is said of an object
 abbrev pub object_text : ℕ → ℕ → List ℕ
@@ -29,12 +33,18 @@ IsOneFault due (status.LinkError faults) = faults ≡ due ∷ []
 IsOneFault due status.NoMemory = Unit {0}
 IsOneFault due _ = ⊥
 
+-- the text of a file without a fault, by its kind
+abbrev pub IsTextOf : Result Kind InputFault → List ℕ → List ℕ → List ℕ → Type 0
+IsTextOf (Err fault) path bytes text = ⊥
+IsTextOf (Ok kind.Object) path bytes text = text ≡ object_text (length (headers_in bytes)) (symbol_count bytes)
+IsTextOf (Ok kind.Shared) path bytes text = text ≡ shared_text (facts_of path bytes)
+
 -- what is said of a file of these bytes; its faults, where it has one, are those of its first one
 abbrev pub ReportsBytes : List ℕ → List ℕ → Result (List ℕ) Status → Type 0
 ReportsBytes path bytes (Ok text) =
-    (length bytes ≤ 2 ^ 26) × (object_fault bytes ≡ None) × (text ≡ object_text (length (headers_in bytes)) (symbol_count bytes))
+    (length bytes ≤ 2 ^ 26) × (read_fault bytes ≡ None) × IsTextOf (kind_of bytes) path bytes text
 ReportsBytes path bytes (Err (status.LinkError faults)) =
-    (length bytes ≤ 2 ^ 26) × (option_map (λ first. fault.Input path first ∷ []) (object_fault bytes) ≡ Some faults)
+    (length bytes ≤ 2 ^ 26) × (option_map (λ first. fault.Input path first ∷ []) (read_fault bytes) ≡ Some faults)
 ReportsBytes path bytes (Err (status.Limit exceeded)) =
     (2 ^ 26 < length bytes) × (exceeded ≡ record { which = limit.InputSize; number = length bytes })
 ReportsBytes path bytes (Err status.NoMemory) = Unit {0}

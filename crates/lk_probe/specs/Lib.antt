@@ -1,3 +1,4 @@
+pub mod SharedFacts
 pub mod Judging
 pub mod Resolving
 pub mod ResolutionTexts

@@ -4,8 +4,11 @@ ghost use Rattle.std.specs.Prelude.{◌≡◌, IfOk, Some};
 ghost use Rattle.lk_report.specs.FileMap.{FileMap};
 ghost use Rattle.lk_inputs.specs.FileAnswers.{StatusCounts, known_map};
 ghost use Rattle.lk_probe.specs.FileTexts.{IsOneFault, IsText, ReportsBytes, ReportsFile, object_text};
+ghost use Rattle.lk_probe.specs.SharedFacts.{shared_text};
 
 use crate::reading::{Verdict, judged};
+use crate::shared_facts::SharedFacts;
+use crate::shared_texts::shared_text;
 use crate::writing::{put, put_number};
 use lk_outside::{Files, ReadAnswer};
 use lk_report::{Bytes, Fault, List, Name, NoMemory, Status};
@@ -34,6 +37,16 @@ fn object_reported(alloc: Global, sections: usize, symbols: usize) -> Result<Byt
     }
 }
 
+/// What is said of a shared object with these facts, or out of memory as a status.
+fn shared_reported(alloc: Global, facts: &SharedFacts) -> Result<Bytes, Status>
+    ensures { IsText (shared_text facts.now) result }
+{
+    match shared_text(alloc, facts) {
+        Ok(text) => Ok(text),
+        Err(NoMemory) => Err(Status::NoMemory),
+    }
+}
+
 /// The status of one fault.
 pub fn one_fault(alloc: Global, fault: Fault) -> Status
     ensures { IsOneFault fault result }
@@ -49,8 +62,9 @@ pub fn one_fault(alloc: Global, fault: Fault) -> Status
 fn bytes_reported(alloc: Global, path: Name, bytes: &[u8]) -> Result<Bytes, Status>
     ensures { ReportsBytes path bytes.now result }
 {
-    match judged(alloc, bytes) {
+    match judged(alloc, bytes, &path) {
         Verdict::Object { sections, symbols } => object_reported(alloc, sections, symbols),
+        Verdict::Shared(facts) => shared_reported(alloc, &facts),
         Verdict::Faulty(fault) => Err(one_fault(alloc, Fault::Input { path, fault })),
         Verdict::TooLong(limit) => Err(Status::Limit(limit)),
         Verdict::NoMemory => Err(Status::NoMemory),
@@ -60,7 +74,7 @@ fn bytes_reported(alloc: Global, path: Name, bytes: &[u8]) -> Result<Bytes, Stat
 /// What is said of the file of a path, or the status that is reported in its place.
 ///
 /// # Errors
-/// A file that is not there; a read that failed; a file that is longer than an object may be; its first fault;
+/// A file that is not there; a read that failed; a file that is longer than an input may be; its first fault;
 /// out of memory.
 #[tactic(auto, using(lk_inputs::proofs::CallsReported::read_reports, lk_inputs::proofs::CallsReported::read_counts))]
 pub fn file_reported<F: Files>(alloc: Global, path: Name, files: &mut F) -> Result<Bytes, Status>

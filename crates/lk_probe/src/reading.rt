@@ -1,14 +1,18 @@
 //! What the bytes of a file are.
 
-ghost use Rattle.std.specs.Prelude.{◌≡◌, ◌≤◌, ◌<◌, ◌^◌, length, IfOk, Some, None};
+ghost use Rattle.std.specs.Prelude.{◌≡◌, ◌≤◌, ◌<◌, ◌^◌, ℕ, List, length, IfOk, Some, None, Ok};
+ghost use Rattle.lk_model.specs.Kinds.{kind_of};
 ghost use Rattle.lk_model.specs.ObjectChecks.{object_fault};
 ghost use Rattle.lk_probe.specs.Judging.{AreCounts, IsJudged};
 
+use crate::shared_facts::{SharedFacts, facts_of};
 use lk_elf::Ehdr;
 use lk_model::limits::MOST_INPUT_BYTES;
+use lk_model::summaries::Kind;
 use lk_obj_parts::{read_sections, read_symbols};
 use lk_obj_read::object_fault;
-use lk_report::{InputFault, LimitFault, LimitKind, NoMemory};
+use lk_report::{InputFault, LimitFault, LimitKind, Name, NoMemory};
+use lk_summary::{ReadFailure, kind_of};
 use std::alloc::Global;
 
 /// What a file is.
@@ -16,18 +20,19 @@ use std::alloc::Global;
 pub enum Verdict {
     /// An object that can be linked, with so many section headers and entries of its symbol table.
     Object { sections: usize, symbols: usize },
+    /// A shared object with its name, its needs and the numbers of its symbols.
+    Shared(SharedFacts),
     /// A file with this first fault.
     Faulty(InputFault),
-    /// A file that is longer than an object may be.
+    /// A file that is longer than an input may be.
     TooLong(LimitFault),
     /// There was no memory to report.
     NoMemory,
 }
 
-/// What the bytes of a file are.
-#[tactic(auto, using(crate::proofs::FirstHeaders::has_header))]
-pub fn judged(alloc: Global, bytes: &[u8]) -> Verdict
-    ensures { IsJudged bytes.now result }
+/// What the bytes of a file at a path are.
+pub fn judged(alloc: Global, bytes: &[u8], path: &Name) -> Verdict
+    ensures { IsJudged path.now bytes.now result }
 {
     if bytes.len() as u64 > MOST_INPUT_BYTES {
         return Verdict::TooLong(LimitFault {
@@ -35,6 +40,20 @@ pub fn judged(alloc: Global, bytes: &[u8]) -> Verdict
             number: bytes.len() as u64,
         });
     }
+    match kind_of(bytes) {
+        Ok(Kind::Object) => judged_object(alloc, bytes),
+        Ok(Kind::Shared) => judged_shared(alloc, bytes, path),
+        Err(fault) => Verdict::Faulty(fault),
+    }
+}
+
+/// What the bytes of a relocatable object are.
+#[tactic(auto, using(crate::proofs::FirstHeaders::has_header))]
+fn judged_object(alloc: Global, bytes: &[u8]) -> Verdict
+    requires short { length bytes.now ≤ 2 ^ 26 }
+    requires relocatable { kind_of bytes.now ≡ Ok Kind.Object }
+    ensures { (path : List ℕ) → IsJudged path bytes.now result }
+{
     match object_fault(alloc, bytes) {
         Ok(None) => counted(alloc, bytes),
         Ok(Some(fault)) => Verdict::Faulty(fault),
@@ -42,12 +61,27 @@ pub fn judged(alloc: Global, bytes: &[u8]) -> Verdict
     }
 }
 
+/// What the bytes of a shared object at a path are.
+#[tactic(auto, using(lk_summary::proofs::KindsKnown::no_header))]
+fn judged_shared(alloc: Global, bytes: &[u8], path: &Name) -> Verdict
+    requires short { length bytes.now ≤ 2 ^ 26 }
+    requires shared { kind_of bytes.now ≡ Ok Kind.Shared }
+    ensures { IsJudged path.now bytes.now result }
+{
+    match facts_of(alloc, bytes, path) {
+        Ok(facts) => Verdict::Shared(facts),
+        Err(ReadFailure::Input(fault)) => Verdict::Faulty(fault),
+        Err(ReadFailure::NoMemory) => Verdict::NoMemory,
+    }
+}
+
 /// An object with its counts.
 fn counted(alloc: Global, bytes: &[u8]) -> Verdict
     requires sound { object_fault bytes.now ≡ None }
+    requires relocatable { kind_of bytes.now ≡ Ok Kind.Object }
     requires short { length bytes.now ≤ 2 ^ 26 }
     requires headed { 64 ≤ length bytes.now }
-    ensures { IsJudged bytes.now result }
+    ensures { (path : List ℕ) → IsJudged path bytes.now result }
 {
     match counts(alloc, bytes) {
         Ok((sections, symbols)) => Verdict::Object { sections, symbols },
