@@ -1,5 +1,5 @@
 -- This project's own: which inputs are added, by marks, one for each.
-use Rattle.std.specs.Prelude.{◌==◌, ℕ, Bool, true, List, map, slice_set}
+use Rattle.std.specs.Prelude.{◌==◌, ℕ, Bool, List, map}
 use Rattle.std.specs.List.{list_any, range_with_len}
 
 -- an input, by its number, is among the added ones
@@ -9,7 +9,3 @@ is_added added n = list_any (λ m. m == n) added
 -- for each of so many numbers, from a first one on, whether it is among the added ones
 abbrev pub marks_from : List ℕ → ℕ → ℕ → List Bool
 marks_from added first count = map (is_added added) (range_with_len first count)
-
--- the marks once an input was marked
-abbrev pub with_mark : List Bool → ℕ → List Bool
-with_mark marks n = slice_set marks n true

@@ -5,8 +5,8 @@ ghost use Rattle.lk_records.specs.AddedMarks.{marks_from};
 ghost use Rattle.lk_records.specs.InputRecords.{record_with, records_with};
 ghost use Rattle.lk_records.specs.Occurrences.{name_path, occurrences_after};
 
-use crate::added_marks::added_marks;
 use crate::occurrences::occurrences_of;
+use lk_marks::Marks;
 use lk_model::input_names::InputName;
 use lk_model::records::{InputRecord, InputRecordList};
 use lk_model::summaries::{InputSummary, SummaryList};
@@ -58,6 +58,7 @@ fn records_of(
 ///
 /// # Errors
 /// Out of memory alone.
+#[tactic(auto, using(crate::proofs::RecordsMade::marks_are))]
 pub fn input_records(
     alloc: Global,
     names: &[InputName],
@@ -68,6 +69,12 @@ pub fn input_records(
     ensures { IfOk result (λ rows. rows ≡ records_with names.now (occurrences_after [] (map name_path names.now)) (marks_from added.now 0 (length names.now)) summaries) }
 {
     let occurrences = occurrences_of(alloc, names)?;
-    let marks = added_marks(alloc, names.len(), added)?;
-    records_of(alloc, names, occurrences.as_slice(), &marks, summaries)
+    let marks = Marks::of(alloc, names.len(), added)?;
+    records_of(
+        alloc,
+        names,
+        occurrences.as_slice(),
+        marks.as_slice(),
+        summaries,
+    )
 }

@@ -12,7 +12,6 @@
 //! Paths are counted in a map, and added inputs are marked, so that each input is looked at once.
 #![tactic(auto)]
 
-mod added_marks;
 mod gathering;
 mod input_records;
 mod laws;
