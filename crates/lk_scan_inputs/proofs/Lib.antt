@@ -1,4 +1,3 @@
-pub mod MarksMade
 pub mod ObjectsRead
 pub mod LinkScanned
 pub mod UnrefusedObjects

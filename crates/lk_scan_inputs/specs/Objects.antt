@@ -1,6 +1,6 @@
 -- This project's own: the objects of a link by the numbers of its inputs.
 use Rattle.std.specs.Prelude.{◌≡◌, ℕ, ◌+◌, Bool, cond, List, [], ◌∷◌, ◌++◌, map, Option, Some, None}
-use Rattle.std.specs.List.{AllByRecursion, range_with_len}
+use Rattle.std.specs.List.{AllByRecursion}
 use Rattle.lk_model.specs.Elf.{elf_of}
 use Rattle.lk_model.specs.Numbered.{is_number_in}
 use Rattle.lk_model.specs.ObjectChecks.{object_fault}
@@ -19,10 +19,6 @@ pub record IsObject (x : Input) : Type 0 where
 -- all inputs are such ones
 abbrev pub AreObjects : List Input → Type 0
 AreObjects xs = AllByRecursion IsObject xs
-
--- whether inputs are added, by number
-abbrev pub marks_of : List ℕ → ℕ → List Bool
-marks_of added count = map (is_number_in added) (range_with_len 0 count)
 
 -- the objects of marked files, and none of others
 abbrev pub marked_objects : List Bool → List InputFile → List (Option (List ℕ))

@@ -12,7 +12,6 @@
 //! besides: the inputs of a command are such ones where they are not refused (`unrefused_are_objects`).
 #![tactic(auto)]
 
-mod added_marks;
 mod laws;
 mod link_scanning;
 mod object_reading;

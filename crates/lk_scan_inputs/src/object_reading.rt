@@ -11,8 +11,8 @@ ghost use Rattle.lk_model.specs.Objects.{summary_in};
 ghost use Rattle.lk_inputs.specs.FilesRead.{fault_in, summary_of};
 ghost use Rattle.lk_scan_inputs.specs.Objects.{HasObjects, marked_objects, objects_of, with_input};
 
-use crate::added_marks::added_marks;
 use lk_inputs::{InputFile, InputFileList};
+use lk_marks::Marks;
 use lk_model::input_names::{InputName, InputNameList};
 use lk_model::summaries::InputSummary;
 use lk_obj_read::{Object, copy_summary, object_of};
@@ -123,6 +123,6 @@ pub fn read_objects(
     ensures count { IfOk result (λ read. length read.objects ≡ length files) }
 {
     let count = files.as_slice().len();
-    let marks = added_marks(alloc, count, resolution.added().as_slice())?;
-    read_marked(alloc, &marks, files, summaries)
+    let marks = Marks::of(alloc, count, resolution.added().as_slice())?;
+    read_marked(alloc, marks.as_slice(), files, summaries)
 }
