@@ -1,6 +1,7 @@
 //! A program for developers, and for whoever wants objects validated or wants to know what a link is made of.
 //!
-//! `lk_probe read FILE` says `object` with the numbers of the file's section headers and symbols, or its first
+//! `lk_probe read FILE` says `object` with the numbers of the file's section headers and symbols, or `shared object`
+//! with its name, the names of the files that it needs and the numbers of its symbols by kind, or the file's first
 //! fault as the linker reports it. `lk_probe load FILE` says what a loader makes of an executable: its runs of
 //! bytes by address, size and rights, its entry, its thread-local segment, what it needs, and how many symbols
 //! and relocations it names; or why a loader takes none. `lk_probe resolve WORDS`, of the words of a link, says
@@ -9,8 +10,6 @@
 //! anew, puts its output sections, and how many pieces it keeps, or what the linker reports before it has an image.
 //! It ends with the linker's exit status for what it says: 0, 1 for faults, 2 for words, 3 for a file that cannot
 //! be read, 5 for out of memory, 6 for a limit, 8 for what is not built yet.
-//! name, the names of the files that it needs and the numbers of its symbols by kind, or the file's first fault as
-//! the linker reports it. `lk_probe resolve WORDS`, of the words of a link, says which inputs are added,
 //!
 //! `what_is_asked` (arguments.rt) reports what the arguments ask for, `answer_to` (answering.rt) answers it, and
 //! `say_answer` (saying.rt) says the answer; `main` hands the host's files and standard output to them.

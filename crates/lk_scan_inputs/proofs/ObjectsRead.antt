@@ -4,7 +4,6 @@ use Rattle.std.proofs.Common.{◌≡◌, refl, ap, ◌∙◌, sym, arith, ℕ, s
 use Rattle.std.specs.Prelude.{IfOk, filter_map, option_map}
 use Rattle.std.specs.List.{cons_option, range_with_len}
 use Rattle.std.proofs.lemmas.List.{append_assoc, drop_more, length-drop, length-map}
-use Rattle.std.proofs.lemmas.List.FromFn.{length-map-range_with_len}
 use Rattle.lk_report.specs.declared.faults.Fault.TheVariants as fault
 use Rattle.lk_report.specs.declared.faults.InputFault.{InputFault}
 use Rattle.lk_model.specs.declared.summaries.InputSummary.{InputSummary}
@@ -83,10 +82,6 @@ summaries_next summaries i items rest file left kept = (summaries_split summarie
 marked_from : (n : ℕ) (added : List ℕ) (files : List InputFile) → marked_objects (map (is_number_in added) (range_with_len n (length files))) files ≡ objects_from n added files
 marked_from n added [] = refl
 marked_from n added (file ∷ files) = ap (λ (os : List (Option (List ℕ))). cond (is_number_in added n) (Some file.bytes) None ∷ os) (marked_from (n + 1) added files)
-
--- one mark for each number below the count
-pub marks_as_many : (numbers : List ℕ) (count : ℕ) (marks : List Bool) → marks ≡ marks_of numbers count → length marks ≡ count
-marks_as_many numbers count marks are = ap (λ (ms : List Bool). length ms) are ∙ length-map-range_with_len (is_number_in numbers) 0 count
 
 pub marked_are_added : (added : List ℕ) (files : List InputFile) (count : ℕ) (marks : List Bool) → count ≡ length files → marks ≡ marks_of added count → marked_objects marks files ≡ objects_of added files
 marked_are_added added files count marks size are = ap (λ (ms : List Bool). marked_objects ms files) (are ∙ ap (marks_of added) size) ∙ marked_from 0 added files

@@ -4,14 +4,13 @@ use Rattle.std.proofs.lemmas.List.FromFn.{length-map-range_with_len}
 use Rattle.lk_marks.specs.Marked.{marks_of}
 use Rattle.lk_model.specs.Numbered.{is_number_in}
 use Rattle.lk_scan_inputs.specs.Objects.{HasObjects}
-use Rattle.lk_scan_inputs.proofs.ObjectsRead.{marked_are_added, marks_as_many, one_for_each}
+use Rattle.lk_scan_inputs.proofs.ObjectsRead.{marked_are_added, one_for_each}
 use Rattle.lk_scan_inputs.proofs.object_reading.read_objects.Goals as goal
 
 pub read_marked-requires-clause-alike : goal.read_marked-requires-clause-alike
 read_marked-requires-clause-alike c =
     ap (λ (marks : List Bool). length marks) (c.as_slice-2.ensures ∙ c.in_ok-marks.ensures)
     ∙ length-map-range_with_len (is_number_in c.as_slice.result.now) 0 (length c.as_slice-count.result.now)
-    marks_as_many c.as_slice.result.now (length c.as_slice-count.result.now) c.as_slice-2.result.now (c.as_slice-2.ensures ∙ c.in_ok-marks.ensures)
     ∙ ap (λ l. length l) c.as_slice-count.ensures
 
 pub returns-clause-read : goal.returns-clause-read
