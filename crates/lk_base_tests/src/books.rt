@@ -1,4 +1,4 @@
-//! A sink in memory that counts its puts, and can be reported to fail at one of them.
+//! A sink in memory that counts its puts, and can be set to fail at one of them.
 
 ghost use Rattle.std.specs.Prelude.{Some};
 ghost use Rattle.lk_report.specs.Spoken.{Spoken};

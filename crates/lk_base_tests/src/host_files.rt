@@ -137,7 +137,7 @@ fn is_kept(rt: HostRuntime, path: &str, time: SystemTime) -> bool {
     }
 }
 
-/// The time that the file's stamp reports.
+/// The time of the file's stamp.
 fn reported_time(files: &mut HostFiles, path: &Name) -> Option<i64> {
     match files.stat(path) {
         StatAnswer::Found(Some(stamp)) => Some(stamp.modified),

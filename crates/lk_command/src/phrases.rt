@@ -2,7 +2,7 @@
 
 use crate::meanings::{Flag, Valued};
 
-/// A part of a command that has a meaning of its own. A word is reported by its number, from 1.
+/// A part of a command that has a meaning of its own. A word is named by its number, from 1.
 #[derive(Clone, Copy)]
 pub(crate) enum Phrase<'a> {
     /// The number of a word that means nothing.

@@ -104,7 +104,7 @@ fn sizes_of(counts: DynamicCounts) -> Result<DynamicSizes, NoMemory>
 /// sections that kept pieces go to, of which the arrays of functions have entries in `.dynamic`.
 ///
 /// # Errors
-/// Out of memory. A size that is greater than 64 bits is reported so too.
+/// Out of memory. A size that does not fit 64 bits is answered so too.
 pub fn table_sizes(
     alloc: Global,
     resolution: &Resolution,

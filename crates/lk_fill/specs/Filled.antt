@@ -40,7 +40,7 @@ pub record CanBeFilled (place : Placement) (size : ℕ) : Type 0 where
   pub fillable : AllByRecursion (λ (entry : ℕ × SectionRow). IsTrue (holes_are_fillable place entry.0 entry.1)) (enumerate_from 0 place.sections)
   -- the rooms that the file holds lie in it
   pub inside : tail_start place ≤ size
-  -- and end below 4 GiB: an entry that takes a hole reports its length in 32 bits
+  -- and end below 4 GiB: an entry that takes a hole has its length in 32 bits
   pub short : tail_start place < 2 ^ 32
 
 -- whether a hole of a row lies in a file of so many bytes, and can be filled

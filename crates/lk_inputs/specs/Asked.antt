@@ -30,7 +30,7 @@ use Rattle.lk_inputs.specs.declared.unread.Unread.TheVariants as unread
 
 -- ---- paths that are asked for
 
--- paths in order, where they are reported
+-- paths in order, where the files report them
 abbrev pub Paths : Type 0
 Paths = Option (List (List ℕ))
 

@@ -1,4 +1,4 @@
--- This project's own: what the reads of inputs answer, and what is reported of the files that were read.
+-- This project's own: what the reads of inputs answer, and what is known of the files that were read.
 use Rattle.std.specs.Prelude.{◌≡◌, ◌+◌, ◌^◌, ◌==◌, ◌<◌, ℕ, Bool, true, false, if◌then◌else◌, [], ◌∷◌, List, length, map, filter_map, find, unwrap_or, Option, Some, None, option_map, Result, Ok, Err}
 use Rattle.std.specs.List.{list_all}
 use Rattle.lk_report.specs.FileMap.{FileMap}
@@ -46,7 +46,7 @@ file_at there name = record { name = name; bytes = unwrap_or (content_at there n
 abbrev pub files_at : FileMap → List InputName → List InputFile
 files_at there names = map (file_at there) names
 
--- the bytes of one file, by the map; that it is not there is reported only where it is not
+-- the bytes of one file, by the map; it is missing only where the map has none
 abbrev pub ContentReported : FileMap → List ℕ → Result (List ℕ) Status → Type 0
 ContentReported there path (Ok bytes) = content_at there path ≡ Some bytes
 ContentReported there path (Err (status.LinkError faults)) = there path ≡ None
@@ -67,7 +67,7 @@ is_name_there there name = is_there there name.path
 abbrev pub are_names_there : FileMap → List InputName → Bool
 are_names_there there names = list_all (is_name_there there) names
 
--- what the reads of inputs answer, by the map; a file that is not there is reported only where one is not
+-- what the reads of inputs answer, by the map; a file is missing only where the map has none
 abbrev pub ReadsGive : FileMap → List InputName → Result (List InputFile) Status → Type 0
 ReadsGive there names (Ok files) = (sizes_limit 0 (files_at there names) ≡ None) × (files ≡ files_at there names)
 ReadsGive there names (Err (status.LinkError faults)) = are_names_there there names ≡ false
@@ -118,7 +118,7 @@ WaitGives files (Err (status.NotYet w)) = shared_wait files ≡ Some (status.Not
 WaitGives files (Err status.NoMemory) = Unit {0}
 WaitGives files (Err _) = ⊥
 
--- what is reported of files of which a shared object makes its input wait
+-- the status of files of which one is a shared object, which is not built yet
 abbrev pub ObjectsGive : List InputFile → Result (List InputSummary) Status → Type 0
 ObjectsGive files (Ok summaries) = (shared_wait files ≡ None) × (filter_map fault_in files ≡ []) × (summaries ≡ map summary_of files)
 ObjectsGive files (Err (status.LinkError faults)) = (shared_wait files ≡ None) × (0 < length faults) × (faults ≡ filter_map fault_in files)

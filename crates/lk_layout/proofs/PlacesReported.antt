@@ -75,7 +75,7 @@ map_alike : {A B : Type 0} (f g : A → B) → ((x : A) → f x ≡ g x) → (xs
 map_alike f g h [] = refl
 map_alike f g h (x ∷ xs) = λ i. h x i ∷ map_alike f g h xs i
 
--- ---- what the groups of all pieces tell
+-- ---- what the groups of all pieces say
 
 pub record PlacementParts (patch : ℕ) (all : List KeptPiece) (sizes : List (SectionKey × ℕ)) (slots : SlotTable) (keys : List SectionKey) (rows : List SectionRow) : Type 0 where
   pub place : place_in rows all slots ≡ placement_of patch all sizes slots

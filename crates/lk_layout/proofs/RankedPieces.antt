@@ -77,7 +77,7 @@ offsets_are all earlier (p ∷ ps) =
     ap (λ rs. lane_offsets (map ranked_of (by_number all)) rs (map ranked_of ps)) (sym (map-append ranked_of earlier (p ∷ []))) ∙ offsets_are all (earlier ++ p ∷ []) ps in
     λ i. here i ∷ later i
 
--- what the sorted pieces tell of an array of functions
+-- what the sorted pieces say of an array of functions
 pub record ArrayReported (pieces : List KeptPiece) (ranked sorted : List Ranked) : Type 0 where
   pub offsets : lane_offsets sorted [] ranked ≡ array_offsets pieces [] pieces
   pub end : ranked_end sorted ≡ sequence_end (by_number pieces)

@@ -2,7 +2,7 @@
 //! were added (this project's own rule).
 //!
 //! Pieces `.init_array.2`, `.init_array.1`, `.init_array.2` are as the second, the first, the third. A copy
-//! sorted by number reports where the pieces end, and where the first of each number is (its lane). Then the
+//! sorted by number says where the pieces end, and where the first of each number is (its lane). Then the
 //! pieces are walked in their own order: each is at its lane's cursor, and moves it. So n pieces cost
 //! n log n steps.
 

@@ -47,7 +47,7 @@ impl<'k> WideExtent<'k> {
         self.key.class
     }
 
-    /// The size that headers tell.
+    /// The size that its header has, in bytes.
     pub(crate) fn size(&self) -> u128
         ensures { result ≡ self.now.size }
     {

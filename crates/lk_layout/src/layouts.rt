@@ -77,7 +77,7 @@ fn laid_out(
 /// base to the greatest end of a loaded room. Both are reported with the whole number.
 ///
 /// `resolution` is what the inputs decide, `inputs` has the summary of each by its number, and `needs`
-/// what the references of kept pieces need. The options tell the room for growth, in percent. Addresses,
+/// what the references of kept pieces need. The options give the room for growth, in percent. Addresses,
 /// offsets, sizes and alignments are in bytes.
 ///
 /// A placement of inputs without a fault is lawful, so that it can be updated in place later.

@@ -40,7 +40,7 @@ fn is_short_decimal(digits: &[u8]) -> bool
     1 <= digits.len() && digits.len() <= 5 && are_digits(digits)
 }
 
-/// The number that at most five digits tell.
+/// The number that at most five digits spell.
 fn decimal_of(digits: &[u8]) -> u32
     requires { length digits.now ≤ 5 }
     ensures { result ≡ decimal_of digits.now }

@@ -75,7 +75,7 @@ fn memory_end(rows: &[WideRow<'_>]) -> Result<u128, NoMemory>
 }
 
 /// The memory that rows take, from the load base to the greatest end of a loaded room; what is greater than a
-/// field holds is reported as the greatest that it holds.
+/// field holds is written as the greatest that it holds.
 pub(crate) fn memory_of(rows: &[WideRow<'_>]) -> Result<u64, NoMemory>
     ensures { IfOk result (λ memory. memory ≡ memory_in rows.now) }
 {

@@ -134,7 +134,7 @@ fn one_placed(alloc: Global, asked: &[Asked]) -> Result<Result<Placement, Layout
     laid_out(alloc, 10, &objects)
 }
 
-/// A row as headers tell it: its name; its address, its offset in the file, its size and its alignment.
+/// A row as its header has it: its name; its address, its offset in the file, its size and its alignment.
 type ExpectedRow = (&'static [u8], [u64; 4]);
 
 /// Whether a row has this name and these numbers.

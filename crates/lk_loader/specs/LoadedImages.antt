@@ -10,7 +10,7 @@ use Rattle.lk_loader.specs.declared.loads.LoadFault.{LoadFault}
 use Rattle.lk_loader.specs.declared.loads.LoadSymbol.{LoadSymbol}
 use Rattle.lk_loader.specs.declared.loads.Loaded.{Loaded}
 
--- a symbol as a loader reports it
+-- a symbol as a loader returns it
 abbrev pub load_symbol : LoadedSymbol → LoadSymbol
 load_symbol s = record { name = s.name; value = s.value; size = s.size; info = s.info; defined = s.defined }
 

@@ -26,6 +26,6 @@ said_by entries tables =
     with_value (loaded_symbols tables.strings tables.records) (λ symbols.
     Some (record { needed = needed; symbols = symbols; relocations = loaded_relas tables.relas ++ loaded_relas tables.jumps })))
 
--- what DYNAMIC names, as the loader reports it
+-- what DYNAMIC names, as the loader returns it
 abbrev pub reported : NamedParts → Named
 reported parts = record { needed = parts.needed; symbols = map load_symbol parts.symbols; relocations = parts.relocations }

@@ -49,7 +49,7 @@ found_row (row ∷ rows) key i has = go (same_key row.key key) (same_key key row
 pub numbered_row_found : (rows : List SectionRow) (key : SectionKey) (f : FoundRow rows key 0) → numbered_row rows key ≡ Some (f.number, f.row)
 numbered_row_found rows key f = let number : 0 + f.number ≡ f.number = omega arith in rw number at f.found
 
--- the kept pieces, as the rows tell them
+-- the kept pieces, as the rows have them
 kept_reported :
     (rows : List SectionRow) (all pieces : List KeptPiece) (i : ℕ)
     → AllByRecursion (λ (piece : KeptPiece). list_any (same_key piece.key) (map (λ (row : SectionRow). row.key) rows) ≡ true) pieces

@@ -30,7 +30,7 @@ filter_apart {A} p q (x ∷ xs) apart = go (q x) refl (filter_apart p q xs apart
     go true f rest = rw f (rw (apart x f) rest)
     go false f rest = rw f rest
 
--- rows tell the extents that they were made of
+-- rows have the extents that they were made of
 pub loaded_extents : (thread : ℕ) (segment : Segment) (at : ℕ) (extents : List Extent) → map extent_of_row (loaded_rows thread segment at extents) ≡ extents
 loaded_extents thread segment at [] = refl
 loaded_extents thread segment at (extent ∷ extents) =

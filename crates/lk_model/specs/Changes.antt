@@ -65,7 +65,7 @@ changed_of base inputs = numbers_where (λ n x. is_changed base x) inputs
 
 -- ---- what an earlier image kept
 
--- what a record reports of a section of an input
+-- what a record says of a section of an input
 abbrev pub info_before : Records → ℕ → ℕ → Option PieceInfo
 info_before base input section =
     option_and_then (λ (i : InputRecord). find (λ (p : PieceInfo). p.section == section) i.summary.pieces) (slice_get base.inputs input)
@@ -126,7 +126,7 @@ abbrev pub same_item : SequenceItem → SequenceItem → Bool
 same_item a b =
     bytes_eq a.path b.path && (a.occurrence == b.occurrence) && (a.section == b.section) && (a.size == b.size) && (a.align == b.align)
 
--- the path and the occurrence of an input by its number, as a record reports them and as a link does
+-- the path and the occurrence of an input by its number, as a record has them and as a link has them
 abbrev pub origin_before : Records → ℕ → Option (List ℕ × ℕ)
 origin_before base n = option_map (λ (i : InputRecord). (i.path, i.occurrence)) (slice_get base.inputs n)
 

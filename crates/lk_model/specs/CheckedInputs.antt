@@ -54,7 +54,7 @@ module _ (texts : ℕ → Option (List ℕ)) where
       given_then (read_among (checked_input rows) [] h.inputs after_rows) (λ inputs rest.
       Ok (record { options = h.options; sections = rows; inputs = inputs }, rest)))))
 
--- what the section of inputs reports, with the section of texts that its texts are in; or the number of
+-- what the section of inputs holds, with the section of texts that its texts are in; or the number of
 -- bytes left at its first bad place
 unfoldable pub inputs_checked : List ℕ → List ℕ → Result ReadInputs ℕ
 inputs_checked strtab bytes = finished (checked_all (text_at strtab) bytes)

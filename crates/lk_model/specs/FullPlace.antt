@@ -206,7 +206,7 @@ abbrev pub tail_start : Placement → ℕ
 tail_start place = file_end place.sections
 
 -- the memory that a placement takes, from the load base to the greatest end of a loaded room; what is
--- greater than a field holds is reported as the greatest that it holds
+-- greater than a field holds is written as the greatest that it holds
 unfoldable pub memory_of : Placement → ℕ
 memory_of place =
     let ends = map (λ (row : SectionRow). row.addr + row.room) (filter (λ (row : SectionRow). is_alloc row.key.class) place.sections) in

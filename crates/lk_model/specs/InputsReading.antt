@@ -232,7 +232,7 @@ module _ (texts : ℕ → Option (List ℕ)) (rows : List SectionRow) where
       given_then (read_inputs_from (n + 1) more rest) (λ is left.
       Ok (i ∷ is, left)))
 
--- what the section reports: the options, the rows of the output sections, the inputs
+-- what the section holds: the options, the rows of the output sections, the inputs
 pub record ReadInputs : Type 0 where
   pub options : OptionRecord
   pub sections : List SectionRow

@@ -22,7 +22,7 @@ use Rattle.lk_model.specs.declared.records.Records.{Records}
 use Rattle.lk_model.specs.declared.records.Reference.{Reference}
 
 module _ {X : Type 0} where
-  -- what a section of a number and its bytes reports; a bad place is reported by its offset
+  -- what a section of a number and its bytes holds, or the offset of its first bad place
   abbrev pub in_section : ℕ → List ℕ → Result X ℕ → Result X RecordFault
   in_section number bytes (Ok x) = Ok x
   in_section number bytes (Err left) = Err (Bad number (length bytes - left))

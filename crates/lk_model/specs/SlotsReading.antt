@@ -80,7 +80,7 @@ made_with rows names (kind, (name, (addr, (size, (align, _))))) =
 unfoldable pub is_good_made : List SectionRow → List PieceRow → PieceRow → Bool
 is_good_made rows before piece = is_field_power piece.align && is_good_place rows before piece
 
--- what the section reports: the slots and entries, and the rows of commons and copies
+-- what the section holds: the slots and entries, and the rows of commons and copies
 pub record ReadSlots : Type 0 where
   pub slots : SlotTable
   pub made : List PieceRow

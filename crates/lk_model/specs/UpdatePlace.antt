@@ -65,7 +65,7 @@ small_holes place (number, row) = elim (is_patched row.key) [
 abbrev pub need_of : Resolved → SectionRow → ℕ
 need_of r row = max row.size (sequence_end (sequence_of (is_numbered_array row.key) (pieces_in row.key r.kept)))
 
--- a table or a sequence that is longer than its room; what a field does not hold is reported as the
+-- a table or a sequence that is longer than its room; what a field does not hold is written as the
 -- greatest that it holds
 abbrev pub no_table_room : Resolved → SectionRow → Option Cause
 no_table_room r row = elim (not (is_patched row.key) && nat_lt row.room (need_of r row)) [

@@ -80,7 +80,7 @@ import_symbol cs (winner.Common size align) = None
 import_symbol cs winner.Made = None
 import_symbol cs winner.Nothing = None
 
--- whether a winner is thread-local, as its symbol reports
+-- whether a winner is thread-local, as its symbol says
 abbrev pub is_tls_winner : Contributions → Winner → Bool
 is_tls_winner cs w = elim (symbol_of_winner cs w) [ None ↦ false | Some g ↦ g.code == stt_tls ]
 

@@ -1,4 +1,4 @@
--- The sections of relocations that are to be marked tell of the same overlaps as all of a target: where each
+-- The sections of relocations that are to be marked have the same overlaps as all of a target: where each
 -- target has one at most, one of fields that rise reports of none.
 use Rattle.std.specs.Prelude.{◌≡◌, refl, ℕ, ◌+◌, ◌==◌, ◌<◌, Bool, true, false, not, ◌&&◌, cond, nat_le, List, [], ◌∷◌, drop, filter, None}
 use Rattle.std.specs.List.{enumerate_from}

@@ -1,4 +1,4 @@
--- The pieces of an object, section after section, where marks tell which sections have relocations.
+-- The pieces of an object, section after section, where marks say which sections have relocations.
 use Rattle.std.specs.Prelude.{◌≡◌, refl, ℕ, zero, suc, ◌+◌, ◌<◌, ◌≤◌, ◌==◌, Bool, true, false, not, ◌&&◌, ◌||◌, List, [], ◌∷◌, ◌++◌, bytes_eq, drop, filter_map, length, Option, Some, None, option_and_then, option_map, option_to_list}
 use Rattle.std.specs.List.{cons_option, list_any}
 use Rattle.std.proofs.Common.{ap, ◌∙◌, sym, arith, append_assoc, append-nil, get_or}

@@ -1,4 +1,4 @@
--- Marks on the targets of relocations tell which sections have relocations.
+-- Marks on the targets of relocations say which sections have relocations.
 use Rattle.std.specs.Prelude.{◌≡◌, refl, ℕ, zero, suc, ◌+◌, ◌*◌, ◌<◌, ◌≤◌, ◌==◌, Bool, true, false, cond, not, ◌||◌, ◌&&◌, nat_eq, List, [], ◌∷◌, ◌++◌, drop, filter, flat_map, length, replicate, slice_get, Some, ◌≢◌}
 use mathlib.Core.Logic.{⊎_elim}
 use Rattle.std.specs.List.{enumerate_from, list_any}

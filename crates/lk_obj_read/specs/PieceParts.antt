@@ -21,13 +21,13 @@ stored_bytes bytes header =
 abbrev pub is_four_zeros : List ℕ → Shdr → Bool
 is_four_zeros bytes header = bytes_eq (stored_bytes bytes header) four_zeros
 
--- marks that tell of each section whether it has relocations, where one of them may be a terminator
+-- marks that say of each section whether it has relocations, where one of them may be a terminator
 abbrev pub MarksServe : List ℕ → List Shdr → List Bool → Type 0
 MarksServe bytes headers marks =
     list_any (is_four_zeros bytes) headers ≡ true
     → marks ≡ marked_by bytes (replicate (length headers) false) (drop 1 headers)
 
--- a terminator: frames of exactly four zero bytes, of a section that is reported to have relocations or none
+-- a terminator: frames of exactly four zero bytes, of a section of which it is known whether it has relocations
 abbrev pub is_terminator_reported : List ℕ → Bool → Shdr → SectionKey → Bool
 is_terminator_reported bytes relocated header key =
     is_frames key && is_four_zeros bytes header && not relocated

@@ -7,7 +7,7 @@
 //! the summary alone; `object_of` makes the object of a file that was so summarized, and checks nothing anew
 //! (`copy_summary` gives it a summary of its own). `read_summary` is what a link keeps of an object of any parts: pieces (`pieces_of`),
 //! symbols, groups, and whether it asks for an executable stack (`asks_exec_stack`); `relocated_sections`
-//! reports which sections have relocations. Each contract cites the
+//! says which sections have relocations. Each contract cites the
 //! definition of that name in lk_model (ObjectChecks, Objects); the passes that checks go through, and what
 //! they read, are in lk_obj_parts.
 //!

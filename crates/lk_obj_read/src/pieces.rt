@@ -1,7 +1,7 @@
 //! The pieces of an object: the sections that may be linked, each with its output section (gABI "Sections").
 //!
 //! A terminator of frames is four zero bytes without relocations. Where a section holds four zero bytes, which
-//! sections have relocations is reported for all of them at once, so that no list of relocations is looked for; in
+//! sections have relocations is found for all of them at once, so that no list of relocations is looked for; in
 //! most objects none does, and no mark is made. Cost: one look at each section header, one at the name of each
 //! section that can be a piece by its type and flags, and two names copied for each piece.
 
@@ -83,7 +83,7 @@ fn is_frames(key: &SectionKey) -> bool
     }
 }
 
-/// Whether a section of frames is a terminator, where it is reported to have relocations or none.
+/// Whether a section of frames is a terminator, where it is known whether it has relocations.
 fn is_terminator(bytes: &[u8], relocated: bool, section: &Shdr, key: &SectionKey) -> bool
     ensures { result ≡ is_terminator_reported bytes.now relocated section.now key.now }
 {
@@ -190,7 +190,7 @@ fn put_piece(pieces: &mut PieceInfoList, piece: Option<PieceInfo>) -> Result<(),
 
 /// The sections of an object that may be linked, by rising section number.
 ///
-/// A section number is reported in 32 bits.
+/// A section number as a number of 32 bits.
 ///
 /// # Errors
 /// Out of memory alone.

@@ -23,7 +23,7 @@ fn is_executable(section: &Shdr) -> bool
     (section.sh_flags / SHF_EXECINSTR) % 2 == 1
 }
 
-/// Whether a name is there, and is that of the section that reports of the stack.
+/// Whether a section has a name, and it is that of the section that asks for a kind of stack (`.note.GNU-stack`).
 fn is_stack_note(name: Option<&[u8]>) -> bool
     ensures { result ≡ is_some_with (bytes_eq (codes ".note.GNU-stack")) (option_copied name.entry) }
 {
@@ -43,7 +43,7 @@ fn is_request(bytes: &[u8], header: &Ehdr, sections: &[Shdr], n: u32, section: &
 
 /// Whether a section of an object asks for an executable stack.
 ///
-/// A section number is reported in 32 bits.
+/// A section number as a number of 32 bits.
 #[tactic(auto, using(crate::proofs::StacksAsked::request_here, crate::proofs::StacksAsked::no_request_here, crate::proofs::StacksAsked::no_request_left, crate::proofs::StacksAsked::stack_reported))]
 pub fn asks_exec_stack(bytes: &[u8], header: &Ehdr, sections: &[Shdr]) -> bool
     requires few { length sections.now < 2 ^ 32 }

@@ -15,7 +15,7 @@ use std::alloc::Global;
 
 /// What a link keeps of an object of these parts, whether or not it has faults.
 ///
-/// Numbers of sections and of symbols are reported in 32 bits.
+/// Numbers of sections and of symbols are numbers of 32 bits.
 ///
 /// # Errors
 /// Out of memory alone.

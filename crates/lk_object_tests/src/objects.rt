@@ -1,5 +1,5 @@
 //! Whole files and their answers by the rules: an object that passes, files that differ from it in one place or
-//! in two, and what is reported of an object that is read.
+//! in two, and what an object that is read gives.
 
 ghost use Rattle.std.specs.Prelude.{◌≤◌, ◌*◌, ◌^◌, length};
 

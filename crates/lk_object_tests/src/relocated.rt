@@ -1,4 +1,4 @@
-//! Which sections are reported to have relocations, and in which order those of several sections are.
+//! Which sections have relocations, and in which order those of several sections are.
 
 use crate::objects::{OBJECT, RELOCATIONS, failure, read};
 use lk_elf::numbers::{SHF_ALLOC, SHF_EXECINSTR, SHT_NULL, SHT_PROGBITS, SHT_RELA};

@@ -79,7 +79,7 @@ const STRINGS: Shdr = Shdr {
     ..NO_SECTION
 };
 
-/// The section that reports of the stack, with these flags.
+/// The section that asks for a kind of stack, with these flags.
 const fn stack(sh_flags: u64) -> Shdr {
     Shdr {
         sh_name: STACK_NAME,

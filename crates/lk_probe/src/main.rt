@@ -11,7 +11,7 @@
 //! It ends with the linker's exit status for what it says: 0, 1 for faults, 2 for words, 3 for a file that cannot
 //! be read, 5 for out of memory, 6 for a limit, 8 for what is not built yet.
 //!
-//! `what_is_asked` (arguments.rt) reports what the arguments ask for, `answer_to` (answering.rt) answers it, and
+//! `what_is_asked` (arguments.rt) says what the arguments ask for, `answer_to` (answering.rt) answers it, and
 //! `say_answer` (saying.rt) says the answer; `main` hands the host's files and standard output to them.
 #![tactic(auto)]
 

@@ -26,7 +26,7 @@ pub enum Verdict {
     Faulty(InputFault),
     /// A file that is longer than an input may be.
     TooLong(LimitFault),
-    /// There was no memory to report.
+    /// There was no memory for the answer.
     NoMemory,
 }
 

@@ -5,7 +5,7 @@
 //! `link_records`. Beside it `exec_stack` says whether an added object asks for an executable stack.
 //!
 //! The contracts cite lk_model: `records_of` and `exec_stack_of` of what `resolve` finds of any inputs that
-//! have these names and summaries. An input's record reports how many inputs before it have its path, so these
+//! have these names and summaries. An input's record says how many inputs before it have its path, so these
 //! inputs have to be counted in that way (`OccurrencesAreRight`). Callers rely on one law,
 //! `inputs_of_commands_are_counted`: the inputs of every command are.
 //!

@@ -20,7 +20,7 @@ use Rattle.lk_report.specs.declared.statuses.LimitKind.TheVariants.{Inputs, Inpu
 use Rattle.lk_report.specs.declared.statuses.Status.{Status}
 use Rattle.lk_report.specs.declared.statuses.Status.TheVariants.{Done, LinkError, Usage, ReadFault, DeviceFault, NoMemory, Limit, NotUpdated, NotYet}
 
--- a number that is reported in hexadecimal
+-- a number in hexadecimal
 unfoldable pub hex_text : ℕ → List ℕ
 hex_text n = codes "0x" ++ digits 16 false n
 

@@ -15,7 +15,7 @@ use std::hash::{Hash, Hasher};
 use std::marker::Model;
 
 /// A name or a path: bytes without a closing zero. Any bytes are a `Name`; whether they are a good
-/// path or symbol is reported where they are used.
+/// path or symbol is checked where they are used.
 #[derive(Drop, Debug)]
 pub struct Name {
     bytes: Vec<u8>,

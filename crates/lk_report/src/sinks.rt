@@ -11,7 +11,7 @@ pub enum Answer {
     Failed,
 }
 
-/// A place that takes bytes one after another. Its meaning is what it holds, where it reports that,
+/// A place that takes bytes one after another. Its meaning is what it holds, where it shows that,
 /// and a count of faults that never falls.
 pub trait Sink {
     /// What the sink holds and how often it failed.

@@ -1,4 +1,4 @@
-//! What a look-up reports of a file beside its bytes.
+//! What a look-up returns of a file beside its bytes.
 
 /// A file's stamp. Two equal stamps are taken as a sign of equal bytes, which is a premise of an
 /// update and nothing that the linker can know.

@@ -16,7 +16,7 @@ abbrev named : List ℕ → Option (List ℕ) → Bool
 named name None = false
 named name (Some other) = bytes_eq name other
 
--- which faults tell of a name
+-- which faults are about a name
 undefined_alike : (name : List ℕ) (f : Fault) → is_undefined_of name f ≡ named name (undefined_name f)
 undefined_alike name (fault.Missing a) = refl
 undefined_alike name (fault.Input a b) = refl

@@ -77,7 +77,7 @@ abbrev pub empty_copy_name : Fault → Option (List ℕ)
 empty_copy_name (fault.CopyOfZero name site) = Some name
 empty_copy_name _ = None
 
--- these are the names that faults tell of as undefined, and as those of empty copies
+-- the names of which faults say that they are undefined, and those of which faults say that their copies are empty
 pub record IsIndexed (faults : List Fault) (undefined copies : List (List ℕ)) : Type 0 where
   pub undefined_names : undefined ≡ filter_map undefined_name faults
   pub copied_names : copies ≡ filter_map empty_copy_name faults

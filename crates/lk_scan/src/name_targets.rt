@@ -73,7 +73,7 @@ fn is_nothing(winner: Winner) -> bool
     }
 }
 
-/// Whether a winner is thread-local, as its symbol reports.
+/// Whether a winner is thread-local, as its symbol says.
 fn is_tls_winner(symbols: &Contributions, winner: Winner) -> bool
     ensures { result ≡ is_tls_winner symbols.now winner }
 {

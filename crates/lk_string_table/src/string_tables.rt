@@ -59,7 +59,7 @@ impl<'a> StringTable<'a> {
     /// Notes a text. It goes last where the table does not have it yet.
     ///
     /// # Errors
-    /// Out of memory. A table of 2^64 bytes, which no memory can have, is reported so too.
+    /// Out of memory. A table of 2^64 bytes, which no memory can have, is answered so too.
     pub fn note(&mut self, text: &'a [u8]) -> Result<(), NoMemory>
         ensures { OnOk result (self.new ≡ with_text self.old text.now) }
     {

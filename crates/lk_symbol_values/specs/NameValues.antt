@@ -22,7 +22,7 @@ definition_in summaries place input symbol =
 abbrev pub symbol_size_in : List InputSummary → ℕ → ℕ → ℕ
 symbol_size_in summaries input symbol = elim (symbol_in summaries input symbol) [ None ↦ 0 | Some g ↦ g.size ]
 
--- what an input or a placed piece reports of a name: the value of its definition, the address of its common block or
+-- what an input or a placed piece says of a name: the value of its definition, the address of its common block or
 -- of its copy
 abbrev pub given_in : List InputSummary → Placement → ℕ → Winner → ℕ
 given_in summaries place n winner.Nothing = 0
@@ -32,7 +32,7 @@ given_in summaries place n (winner.Weak i k) = definition_in summaries place i k
 given_in summaries place n winner.Made = 0
 given_in summaries place n (winner.Import i k) = placed_address place (id.Copy n)
 
--- the value of a name by its winner, where this is what is reported of it, and this what the linker makes of it
+-- the value of a name by its winner: of what inputs and pieces say of it, and of what the linker makes of it
 abbrev pub value_by : Placement → ℕ → ℕ → ℕ → Winner → ℕ
 value_by place given made n winner.Nothing = 0
 value_by place given made n (winner.Strong i k) = given
@@ -58,7 +58,7 @@ size_in summaries (winner.Weak i k) = symbol_size_in summaries i k
 size_in summaries winner.Made = 0
 size_in summaries (winner.Import i k) = symbol_size_in summaries i k
 
--- what a GOT slot holds: of an import the address of its copy, which is reported, else the value
+-- what a GOT slot holds: of an import the address of its copy, which is given, else the value
 abbrev pub slot_content_by : ℕ → Winner → ℕ → ℕ
 slot_content_by given (winner.Import i k) s = low_64 given
 slot_content_by given _ s = s

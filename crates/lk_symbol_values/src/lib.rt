@@ -11,7 +11,7 @@
 //!
 //! The contracts cite lk_model's definitions over what it resolves of the inputs of a command, wherever the
 //! resolution and the summaries are those of the same inputs (`IsGiven` of lk_resolve) and the placement is lawful
-//! (`Lawful`). A sum that a field cannot hold is reported by its low 64 bits (`low_numbers` of
+//! (`Lawful`). A sum that a field does not hold is given by its low 64 bits (`low_numbers` of
 //! specs/SymbolNumbering.antt), as fields are written; a relocation has the same value by these
 //! (`low_numbers_serve`).
 #![tactic(auto)]

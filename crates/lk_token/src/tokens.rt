@@ -7,7 +7,7 @@ use lk_report::NoMemory;
 use std::alloc::Global;
 use std::marker::Model;
 
-/// Blocker tokens with their counts, and lock tokens, each held by at most one task. Contracts see it as the list of
+/// Blocker tokens with their counts, and lock tokens, each with at most one task as its holder. Contracts see it as the list of
 /// the counts and the list that says which locks are locked.
 #[derive(Drop)]
 pub struct Tokens {
