@@ -1,4 +1,4 @@
--- What is gathered of inputs is what lk_model records of them.
+-- The records that are made of inputs are those of lk_model.
 use Rattle.std.proofs.Common.{◌≡◌, refl, sym, ap, ◌∙◌, arith, ℕ, suc, ◌+◌, nat_eq, ◌==◌, ◌||◌, List, [], ◌∷◌, length, map, filter_map, zip, IfOk, Result, Ok, Err}
 use Rattle.std.proofs.lemmas.Bool.Decides.{nat_tests}
 use Rattle.std.specs.List.{cons_option, enumerate_from, list_any, range_with_len}

@@ -1,4 +1,4 @@
--- This project's own: what is recorded of a link, by what code holds of it.
+-- This project's own: the records of a link, by the types of the code.
 use Rattle.std.specs.Prelude.{List, [], length, map}
 use Rattle.lk_report.specs.declared.causes.OptionRecord.{OptionRecord}
 use Rattle.lk_model.specs.declared.layouts.Placement.{Placement}
