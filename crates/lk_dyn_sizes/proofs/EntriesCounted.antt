@@ -10,14 +10,14 @@ use Rattle.lk_resolve.specs.RowFaults.{is_some_in_object}
 use Rattle.lk_symtab.specs.NameRows.{NameRow, row_winner}
 use Rattle.lk_dyn_sizes.specs.EntryCounts.{count_where}
 
--- a row that is there, by its winner
+-- a row of the table, by its winner
 pub in_object_reported : (o : Option NameRow) (w : Winner) → option_map row_winner o ≡ Some w → is_in_object w ≡ is_some_in_object o
 in_object_reported None w e = absurd (cc)
 in_object_reported (Some row) w e =
     let wins : row_winner row ≡ w = cc in
     ap is_in_object (sym wins)
 
--- three that are there or not
+-- the length of a list of up to three items, each of which is present or not
 three : {A : Type 0} (x y z : A) (a b c : Bool) → length (cond a (x ∷ cond b (y ∷ cond c (z ∷ []) []) (cond c (z ∷ []) [])) (cond b (y ∷ cond c (z ∷ []) []) (cond c (z ∷ []) []))) ≡ count_where a + count_where b + count_where c
 three x y z true true true = refl
 three x y z true true false = refl

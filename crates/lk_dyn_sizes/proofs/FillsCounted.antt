@@ -7,7 +7,7 @@ use Rattle.lk_model.specs.DynamicSlots.{SlotFill as Fill, winner_fill}
 use Rattle.lk_symtab.specs.NameRows.{NameRow, row_winner}
 use Rattle.lk_dyn_sizes.specs.Fills.{fills_from, row_fill, slot_fill_in}
 
--- a row that is there, by its winner
+-- a row of the table, by its winner
 pub fill_reported : (thread copied : Bool) (o : Option NameRow) (w : Winner) → option_map row_winner o ≡ Some w → winner_fill thread copied w ≡ option_and_then (row_fill thread copied) o
 fill_reported thread copied None w e = absurd (cc)
 fill_reported thread copied (Some row) w e =

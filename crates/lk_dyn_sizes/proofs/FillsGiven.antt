@@ -1,4 +1,4 @@
--- The slots that the dynamic linker fills are lk_model's.
+-- The slots that the dynamic linker fills are those of lk_model.
 use Rattle.std.proofs.Common.{◌≡◌, refl, sym, ap, ◌∙◌, ℕ, suc, ◌+◌, Bool, true, false, cond, List, [], ◌∷◌, length, map, filter, filter_map, Option, Some, None, is_some, option_map, option_and_then, slice_get, Result, Ok, Err, IfOk}
 use Rattle.std.specs.List.{cons_option, enumerate_from}
 use Rattle.std.proofs.lemmas.Option.{slice_get-map}

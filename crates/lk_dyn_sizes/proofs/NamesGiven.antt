@@ -1,4 +1,4 @@
--- The dynamic names, their texts and the copies are lk_model's.
+-- The dynamic names, their texts and the copies are those of lk_model.
 use Rattle.std.proofs.Common.{◌≡◌, refl, sym, ap, ◌∙◌, arith, ℕ, zero, suc, ◌+◌, add-zero, zero-add, nat_eq, Bool, true, false, ◌||◌, cond, if◌then◌else◌, List, [], ◌∷◌, ◌++◌, length, map, filter, flat_map, zip, Some, slice_get, Result, Ok, Err, IfOk}
 use Rattle.std.specs.Cmp.{nat_eq_equiv}
 use Rattle.std.specs.List.{enumerate_from, list_any, range_with_len}
@@ -59,7 +59,7 @@ dynamic_is r n cs (winner.Weak i k) v = refl
 dynamic_is r n cs winner.Made v = refl
 dynamic_is r n cs winner.Nothing v = refl
 
--- one item more, or not
+-- a list with one more item, or without it
 picked : {A B : Type 0} (f : A → B) (b : Bool) (x : A) (rest : List A) → map f (cond b (x ∷ rest) rest) ≡ cond b (f x ∷ []) [] ++ map f rest
 picked f true x rest = refl
 picked f false x rest = refl

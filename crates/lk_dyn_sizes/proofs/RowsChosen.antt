@@ -6,7 +6,7 @@ use Rattle.lk_model.specs.Numbered.{is_number_in}
 use Rattle.lk_symtab.specs.NameRows.{NameRow, row_visibility, row_winner, symbols_in}
 use Rattle.lk_dyn_sizes.specs.DynamicRows.{chosen_at, is_copied_row, is_dynamic_as, is_dynamic_row, numbers_where, test_at}
 
--- a row that is there, by its symbols, winner and visibility
+-- a row of the table, by its symbols, winner and visibility
 pub dynamic_reported : (needed : List ℕ) (all : Bool) (n : ℕ) (o : Option NameRow) (cs : Contributions) (w : Winner) (v : ℕ) → option_map symbols_in o ≡ Some cs → option_map row_winner o ≡ Some w → option_map row_visibility o ≡ Some v
     → is_dynamic_as needed all n cs w v ≡ test_at (is_dynamic_row needed all) n o
 dynamic_reported needed all n None cs w v symbols wins seen = absurd (cc)

@@ -1,4 +1,4 @@
--- The sizes of the tables are lk_model's.
+-- The sizes of the tables are those of lk_model.
 use Rattle.std.proofs.Common.{◌≡◌, refl, sym, ap, ◌∙◌, ℕ, ◌+◌, ◌*◌, Bool, true, false, cond, if◌then◌else◌, List, [], ◌∷◌, length, length-append, map, Option, Some, None, option_map, option_and_then, slice_get, Result, Ok, Err, IfOk}
 use Rattle.std.proofs.Math.ListN.{length-map}
 use Rattle.std.proofs.lemmas.Option.{slice_get-map}
@@ -36,7 +36,7 @@ use Rattle.lk_dyn_sizes.proofs.NamesGiven.{copied_seen, dynamic_seen}
 use Rattle.lk_resolve.proofs.Seen.{Sees, seen}
 use Rattle.lk_dyn_sizes.proofs.StringsGiven.{needed_seen, strings_seen}
 
--- a number where a winner is in an object
+-- a number where an object has the winner, else none
 abbrev in_object : ℕ → Winner → Option ℕ
 in_object n w = if is_in_object w then Some n else None
 

@@ -1,4 +1,4 @@
--- The names that an image needs, and the table of its texts, are lk_model's.
+-- The shared objects that an image needs, and the table of its texts, are those of lk_model.
 use Rattle.std.proofs.Common.{◌≡◌, refl, sym, ap, ◌∙◌, ℕ, List, [], ◌∷◌, ◌++◌, map, flat_map, filter_map, fold, Option, Some, None, option_map, slice_get, Result, Ok, Err, IfOk}
 use Rattle.std.specs.List.{cons_option}
 use Rattle.std.specs.Str.{bytes_eq}

@@ -6,7 +6,7 @@ use Rattle.lk_model.specs.Texts.{with_text}
 use Rattle.lk_symtab.specs.NameRows.{NameRow, symbols_in}
 use Rattle.lk_dyn_sizes.specs.DynamicStrings.{row_texts, strings_of, texts_at}
 
--- a row that is there, by its symbols
+-- a row of the table, by its symbols
 pub name_reported : (table new : List (List ℕ)) (o : Option NameRow) (cs : Contributions) → option_map symbols_in o ≡ Some cs → new ≡ with_text table cs.name → new ≡ fold with_text table (row_texts o)
 name_reported table new None cs e noted = absurd (cc)
 name_reported table new (Some row) cs e noted =

@@ -1,5 +1,4 @@
--- The ranges of a row cover exactly the bytes of its room that the model's pieces, table and reserved end
--- cover.
+-- The ranges of a row cover exactly the bytes of its room that lk_model's pieces, table and reserved end cover.
 use Rattle.std.proofs.Common.{◌≡◌, ℕ, zero, suc, Bool, true, false, cond, ◌&&◌, ◌||◌, ◌==◌, not, nat_lt, ◌+◌, ◌-◌, ◌^◌, ◌<◌, min, List, [], ◌∷◌, map, filter, Option, Some, None, if◌then◌else◌, refl, sym, ap, ◌∙◌, arith}
 use Rattle.std.specs.List.{enumerate_from, flat_map, list_any, slice_get}
 use Rattle.std.proofs.lemmas.Bool.Decides.{nat_tests}
@@ -36,7 +35,7 @@ or_false false = refl
 
 -- ---- the pieces
 
--- what a piece covers, as the model has it
+-- what a piece covers, as lk_model has it
 abbrev piece_hole : SectionRow → PieceRow → Hole
 piece_hole row piece = record { start = piece.addr - row.addr; length = piece.size }
 
@@ -85,7 +84,7 @@ pieces_free rows n row byte there small (p ∷ ps) =
 
 -- ---- what covers bytes of a row beside its pieces
 
--- what covers bytes of a row beside its pieces, as the model has it
+-- what covers bytes of a row beside its pieces, as lk_model has it
 abbrev beside : SectionRow → List Hole
 beside row = reserved_end row ∷ covered_by_table row
 

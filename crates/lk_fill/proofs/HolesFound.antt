@@ -1,4 +1,4 @@
--- The gaps between the ranges of a row are the holes of the model.
+-- The gaps between the ranges of a row are lk_model's holes.
 use Rattle.std.proofs.Common.{◌≡◌, ℕ, Bool, true, false, cond, ◌&&◌, ◌||◌, not, nat_le, nat_lt, ◌-◌, ◌^◌, ◌<◌, ◌≤◌, List, [], ◌∷◌, fold, Some, refl, sym, ap, ◌∙◌, arith, inl, inr}
 use Rattle.std.specs.List.{list_any, slice_get}
 use Rattle.std.proofs.lemmas.Bool.{cases_lt}
@@ -23,7 +23,7 @@ any_in_row n test (r ∷ rs) = by_row (is_in_row n r) ∙ ap (λ b. (is_in_row n
     by_row true = refl
     by_row false = refl
 
--- ranges none of which is empty have bytes, those of a row too
+-- none of the ranges of a row is empty, where no range is
 some_in_row : (n : ℕ) (ranges : List Covered) → list_any is_empty ranges ≡ false → HaveBytes (ranges_in n ranges)
 some_in_row n [] none = tt
 some_in_row n (r ∷ rs) none = by_row (is_in_row n r) (some_in_row n rs (second (is_empty r) (list_any is_empty rs) none))

@@ -1,4 +1,4 @@
--- What the code does at a number of the list is what is put among the holes.
+-- What the code does at a number of the list puts the range among the holes.
 use Rattle.std.proofs.Common.{◌≡◌, ◌≢◌, ℕ, Bool, true, if◌then◌else◌, zero, suc, ◌+◌, ◌^◌, ◌<◌, ◌≤◌, List, [], ◌∷◌, ◌++◌, length, take, drop, get_or, refl, sym, ap, ◌∙◌, arith, add-one}
 use Rattle.std.proofs.Math.ListN.{set}
 use Rattle.std.specs.List.{insert, remove}
@@ -140,13 +140,13 @@ put_apart {holes} {start} {i} {h} size reached apart other =
     ∙ sym (at_reached size reached
     ∙ ap (λ ys. take i holes ++ ys) (among_before start size h (drop (suc i) holes) (omega (arith, ends)) ∙ before_apart start size h (drop (suc i) holes) other))
 
--- a hole in the stead of two
+-- one hole replaces two
 set_removed : (xs : List Hole) (i : ℕ) (y : Hole) → suc i < length xs → set (remove xs (suc i)) i y ≡ take i xs ++ (y ∷ drop (suc (suc i)) xs)
 set_removed [] i y within = absurd (omega arith)
 set_removed (x ∷ xs) zero y within = refl
 set_removed (x ∷ xs) (suc i) y within = ap (λ ys. x ∷ ys) (set_removed xs i y (omega arith))
 
--- a hole in the stead of one, as one with the next
+-- one hole replaces another, joined with the next
 pub joined_next :
     (holes : List Hole) (i : ℕ) (hole next : Hole)
     → i + 1 < length holes
@@ -160,7 +160,7 @@ joined_next holes i hole next within read touch =
     ∙ sym (ap (λ ys. take i holes ++ put_before hole.start hole.length ys) (is_at_read holes (i + 1) next within read ∙ ap (λ k. next ∷ drop (suc k) holes) (add-one i))
     ∙ ap (λ ys. take i holes ++ ys) (before_touching hole.start hole.length next (drop (suc (suc i)) holes) touch))
 
--- in the stead of one, apart from the next
+-- one hole replaces another, apart from the next
 pub joined_none :
     (holes : List Hole) (i : ℕ) (hole next : Hole)
     → i + 1 < length holes
@@ -175,7 +175,7 @@ joined_none holes i hole next within read apart =
     ∙ sym (ap (λ ys. take i holes ++ put_before hole.start hole.length ys) there
     ∙ ap (λ ys. take i holes ++ ys) (before_apart hole.start hole.length next (drop (suc (i + 1)) holes) apart))
 
--- in the stead of the last
+-- one hole replaces the last
 pub joined_last :
     (holes : List Hole) (i : ℕ) (hole : Hole)
     → i < length holes

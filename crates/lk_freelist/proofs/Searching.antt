@@ -5,7 +5,7 @@ use Rattle.lk_model.specs.FirstFit.{fit_in, first_fit, or_else}
 use Rattle.lk_model.specs.declared.layouts.Hole.{Hole}
 use Rattle.lk_freelist.specs.FreeBytes.{HolesFrom}
 
--- what an index reads is there
+-- the hole that an index reads is in the list
 pub is_placed_at : (holes : List Hole) (i : ℕ) (d : Hole) → i < length holes → drop i holes ≡ get_or holes i d ∷ drop (i + 1) holes
 is_placed_at holes i d within = rw add-one (drop-cons holes i d within)
 

@@ -1,4 +1,4 @@
--- What free lists have to do with lk_model's holes, first fit and fill.
+-- Free lists and lk_model's holes, first fit and fill.
 use Rattle.std.specs.Prelude.{◌≡◌, ℕ, true, List, ◌+◌, ◌%◌, ◌<◌, ◌≤◌, ◌&&◌, not, fold, nat_le, IsTrue, Some}
 use Rattle.std.specs.List.{list_all}
 use Rattle.lk_model.specs.FirstFit.{first_fit}
@@ -17,7 +17,7 @@ SameBytesSameHoles = (xs ys : List Hole) → AreHoles xs → AreHoles ys → ((b
 abbrev pub LeftAreHoles : Type 0
 LeftAreHoles = (holes taken : List Hole) → AreHoles holes → AreHoles (fold without holes taken)
 
--- whose bytes are the free ones that are in none of the ranges
+-- the bytes of these holes are the free ones that are in none of the ranges
 abbrev pub LeftAreFree : Type 0
 LeftAreFree = (holes taken : List Hole) (byte : ℕ) → is_free (fold without holes taken) byte ≡ (is_free holes byte && not (is_free taken byte))
 

@@ -1,5 +1,5 @@
--- That the headers over rows are lk_model's, which are over the parts of a tail with their bytes and over
--- the resolved inputs.
+-- The headers made of rows are those of lk_model, which are made of the parts of a tail with their bytes and of the
+-- resolved inputs.
 use Rattle.std.specs.Prelude.{◌≡◌, List}
 use Rattle.std.specs.List.{flat_map}
 use Rattle.lk_elf.specs.Records.{shdr_bytes}

@@ -1,4 +1,4 @@
--- A row that is noted is found where none was found before.
+-- A row that is noted for a section is found for it, where no earlier row was.
 use Rattle.std.proofs.Common.{◌≡◌, ℕ, Bool, true, false, cond, ◌&&◌, ◌==◌, List, [], ◌∷◌, Option, Some, None, refl, sym, ap, ◌∙◌, is_some, arith}
 use Rattle.std.proofs.lemmas.Bool.Decides.{nat_tests}
 use Rattle.std.specs.Map.{lookup}
@@ -18,7 +18,7 @@ absent-after : (b : Bool) (row : PieceRow) (rest : Option PieceRow) → is_some 
 absent-after true row rest none = absurd cc
 absent-after false row rest none = none
 
--- a row before others comes before what is found after them
+-- a row at the front of a list is found before those after it
 before-it : (b : Bool) (row : PieceRow) (all rest more : Option PieceRow) → all ≡ option_or rest more → cond b (Some row) all ≡ option_or (cond b (Some row) rest) more
 before-it true row all rest more e = refl
 before-it false row all rest more e = e

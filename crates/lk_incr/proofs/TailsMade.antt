@@ -1,4 +1,4 @@
--- The parts that are put together are those of the tail.
+-- The parts that the code puts together are the parts of the tail.
 use Rattle.std.proofs.Common.{◌≡◌, ℕ, List, [], ◌∷◌, ◌++◌, ap, ◌∙◌}
 use Rattle.std.specs.Prelude.{codes}
 use Rattle.lk_model.specs.RecordsOf.{records_of}

@@ -7,7 +7,7 @@ use Rattle.lk_model.specs.RecordFields.{Field, field_bytes, spelled}
 use Rattle.lk_model.specs.RecordFields.Field.{Short, Long, Text}
 use Rattle.lk_incr.specs.Words.{words_from, words_of}
 
--- the bytes of a half that may be there
+-- the bytes of the first half of a word, where one is pending
 abbrev half_bytes : Option (List ℕ) → List ℕ
 half_bytes None = []
 half_bytes (Some half) = half

@@ -21,7 +21,7 @@ row_among rows input section = find (λ (row : PieceRow). same_piece row.piece (
 abbrev pub RowsFound : List (PieceKey × PieceRow) → Placement → Type 0
 RowsFound entries place = (input section : ℕ) → row_under entries input section ≡ piece_row_of place (id.Section input section)
 
--- a row was noted: it is found where none was found before
+-- a row was noted: it is found for its section, where no earlier row was
 abbrev pub RowNoted : List (PieceKey × PieceRow) → PieceRow → List (PieceKey × PieceRow) → Type 0
 RowNoted before row after =
     (input section : ℕ) → row_under after input section ≡ option_or (row_under before input section) (row_among (row ∷ []) input section)

@@ -11,7 +11,7 @@ part_with name bytes = record { name = name; bytes = bytes }
 abbrev pub records_with : List ℕ → List ℕ → List Part
 records_with inputs texts = part_with (codes ".gnu_incremental_inputs") inputs ∷ part_with (codes ".gnu_incremental_strtab") texts ∷ []
 
--- these and the names of the sections
+-- the record sections and the section of section names
 abbrev pub tail_with : List ℕ → List ℕ → List ℕ → List Part
 tail_with inputs texts names =
     part_with (codes ".gnu_incremental_inputs") inputs

@@ -10,7 +10,7 @@ use Rattle.lk_model.specs.declared.layouts.Placement.{Placement}
 use Rattle.lk_model.specs.declared.layouts.SectionRow.{SectionRow}
 use Rattle.lk_law_loading.proofs.RowsOfPlace.{IsRow}
 
--- an item that was found is there by a number, and passes the test
+-- an item that was found is in the list at a number, and passes the test
 pub record FoundThere {A : Type 0} (test : A → Bool) (xs : List A) (x : A) : Type 0 where
   pub number : ℕ
   pub there : slice_get xs number ≡ Some x

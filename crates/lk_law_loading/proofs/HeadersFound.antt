@@ -20,7 +20,7 @@ use Rattle.lk_model.proofs.Multiples.{round_up_above}
 use Rattle.lk_law_placement.proofs.DistinctLists.{all_joined}
 use Rattle.lk_law_loading.proofs.RowsRise.{round_up_rises}
 
--- what no item of a list passes is found behind it
+-- where no item of a list passes, the first that passes is among those behind the list
 pub find_behind : {A : Type 0} (test : A → Bool) (xs ys : List A) → AllByRecursion (λ x. test x ≡ false) xs → find test (xs ++ ys) ≡ find test ys
 find_behind test [] ys none = refl
 find_behind test (x ∷ xs) ys none = rw (none.0) (find_behind test xs ys none.1)

@@ -99,7 +99,7 @@ ReadAs inputs kept (id.Section number section) = SectionRead inputs kept number 
 ReadAs inputs kept (id.Common name) = in_file kept.key.class ≡ false
 ReadAs inputs kept (id.Copy name) = in_file kept.key.class ≡ false
 
--- what is known of a kept piece
+-- a kept piece as it was read of its input, whose thread-local section is the one of its class
 pub record KeptRead (inputs : List Input) (kept : KeptPiece) : Type 0 where
   pub read : ReadAs inputs kept kept.piece
   pub thread : ThreadNamed kept.key

@@ -22,8 +22,8 @@ pub record ThreadNamed (key : SectionKey) : Type 0 where
 abbrev pub IsWhole : Resolved → Placement → KeptPiece → Type 0
 IsWhole r place kept = in_file kept.key.class ≡ true → length (linked_bytes r place kept) ≡ kept.size
 
--- a placement within the limits of a link: the end of its memory is a number that every field of a program header holds
--- it, and its program headers end below the seal
+-- a placement within the limits of a link: its memory ends where every field of a program header can represent the
+-- end, and its program headers end below the seal
 pub record WithinLimits (r : Resolved) (place : Placement) : Type 0 where
   pub memory : memory_of place ≤ 2 ^ 31
   pub headers : length (program_headers place (exec_stack_of r)) ≤ 64

@@ -35,7 +35,7 @@ in_order_keeps P keys all = ranks_keep P keys (range_with_len 0 31) all
 abbrev IsKnown : Resolved → SectionKey → Type 0
 IsKnown r key = (is_some (table_size r (slots_of r.needs) key) || list_any (λ (piece : KeptPiece). same_key piece.key key) r.kept) ≡ true
 
--- to the section of a kept piece one goes
+-- each kept piece has its own section among those of all
 pieces_own : (before pieces : List KeptPiece) → AllByRecursion (λ (piece : KeptPiece). list_any (λ (other : KeptPiece). same_key other.key piece.key) (before ++ pieces) ≡ true) pieces
 pieces_own before [] = tt
 pieces_own before (piece ∷ pieces) = (
@@ -89,7 +89,7 @@ or_before : (a b c : Bool) → (b || c) ≡ true → (a || b || c) ≡ true
 or_before true b c either = refl
 or_before false b c either = either
 
--- no other table is there
+-- a full placement has no other table
 pub full_no_other_tables : (r : Resolved) → AllByRecursion (λ (row : SectionRow). IsTrue (is_no_strange_table r (full_place r).slots row)) (full_place r).sections
 unfolding full_place
 full_no_other_tables r =

@@ -26,7 +26,7 @@ use Rattle.lk_model.proofs.Rising.{all_map}
 eq_self : (n : ℕ) → (n == n) ≡ true
 eq_self n = eq-eqb n n refl
 
--- owners that one test takes for the same are one owner
+-- owners that are equal by one test are equal
 owner_reports : (a b : GotOwner) → owner_eq a b ≡ true → a ≡ b
 owner_reports (owner.Global n) (owner.Global m) same = ap (λ k. owner.Global k) (eqb-true n m same)
 owner_reports (owner.Local i s) (owner.Local j t) same =
@@ -39,7 +39,7 @@ owner_self : (a : GotOwner) → owner_eq a a ≡ true
 owner_self (owner.Global n) = eq_self n
 owner_self (owner.Local i s) = and_from (i == i) (s == s) (eq_self i) (eq_self s)
 
--- the two tests of owners are one
+-- the two tests of owners agree
 owners_alike : (a b : GotOwner) → same_owner a b ≡ owner_eq a b
 owners_alike (owner.Global n) (owner.Global m) = refl
 owners_alike (owner.Local i s) (owner.Local j t) = refl
@@ -68,7 +68,7 @@ and_turned true false = refl
 and_turned false true = refl
 and_turned false false = refl
 
--- the two tests of keys are one
+-- the two tests of keys agree
 keys_alike : (a b : GotKey) → same_got a b ≡ got_key_eq a b
 keys_alike a b =
     ap (λ (t : Bool). t && same_owner a.owner b.owner) (truths_alike a.thread b.thread)
@@ -78,7 +78,7 @@ keys_alike a b =
 abbrev got_key : GotOwner → Bool → GotKey
 got_key o t = record { owner = o; thread = t }
 
--- keys that it takes for the same are one key
+-- keys that are equal by a test are equal
 key_reports : (a b : GotKey) → got_key_eq a b ≡ true → a ≡ b
 key_reports a b same =
     let parts = and_parts (owner_eq a.owner b.owner) (beq a.thread b.thread) same in

@@ -3,7 +3,7 @@ use Rattle.std.specs.Prelude.{◌≡◌, Bool, true, false, List, [], ◌∷◌,
 use Rattle.std.specs.List.{AllByRecursion, cons_option}
 use Rattle.lk_model.specs.Checks.{first_fault}
 
--- what is there has the property
+-- an optional item has the property, where it is present
 abbrev pub AllSome : {A : Type 0} → (A → Type 0) → Option A → Type 0
 AllSome P None = ⊤
 AllSome P (Some x) = P x
@@ -12,7 +12,7 @@ reported_first : {A : Type 0} (P : A → Type 0) (o : Option A) (xs : List A) �
 reported_first P None xs first rest = rest
 reported_first P (Some x) xs first rest = (first, rest)
 
--- what holds of whatever each item gives holds of all that they give
+-- where the property holds of what each item gives, it holds of all items that are given
 pub all_reported : {A B : Type 0} (P : B → Type 0) (h : A → Option B) (xs : List A) → AllByRecursion (λ x. AllSome P (h x)) xs → AllByRecursion P (filter_map h xs)
 all_reported P h [] all = tt
 all_reported P h (x ∷ xs) all = reported_first P (h x) (filter_map h xs) all.0 (all_reported P h xs all.1)
@@ -20,7 +20,7 @@ all_reported P h (x ∷ xs) all = reported_first P (h x) (filter_map h xs) all.0
 some_none : {F : Type 0} (f : F) → Some f ≡ None → ⊥
 some_none f e = cc
 
--- where no fault is found no check holds
+-- where no fault is found, no check finds one
 pub all_passed : {F : Type 0} (checks : List (Bool × F)) → first_fault checks ≡ None → AllByRecursion (λ check. check.0 ≡ false) checks
 all_passed [] e = tt
 all_passed ((true, f) ∷ checks) e = absurd (some_none f e)

@@ -18,7 +18,7 @@ use Rattle.lk_law_placement.specs.SoundPieces.{SoundPieces}
 abbrev pub SoundIsLawful : Type 0
 SoundIsLawful = (r : Resolved) → SoundPieces r → IsDistinct got_key_eq r.needs.got → IsDistinct nat_eq r.needs.plt → Lawful r (full_place r)
 
--- so it is where the inputs hold what was read of files without a fault
+-- so it is where each input has what was read of a file without a fault
 abbrev pub InputsAreLawful : Type 0
 InputsAreLawful = (options : OptionRecord) (inputs : List Input) → SoundInputs inputs → Lawful (resolve options inputs) (full_place (resolve options inputs))
 

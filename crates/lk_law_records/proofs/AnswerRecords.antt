@@ -100,7 +100,7 @@ placement-not r =
     (first-not memory later (limit-not limit.Memory (2 ^ 31) (memory_of place))
     (first-not headers image (limit-not limit.Headers 64 (length (program_headers place (exec_stack_of r)))) (limit-not limit.Image (2 ^ 29) (image_length r place))))
 
--- ---- what a full link reports
+-- ---- what follows of a full link
 
 placed-reports : (r : Resolved) → placed_answer r (full_place r) ≡ full_link → placement_limit r (full_place r) ≡ None
 placed-reports r done = (passed (placement_limit r (full_place r)) _ (placement-not r) done).0

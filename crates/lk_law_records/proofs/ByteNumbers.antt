@@ -1,5 +1,5 @@
--- The numbers of a file's fields are below their widths (gABI "Data Representation"), and a file has no more
--- headers and symbols than its fields and its length allow.
+-- The numbers of a file's fields are below their widths (gABI "Data Representation"), and a file has no more headers
+-- and symbols than its fields and its length have room for.
 use Rattle.std.specs.Prelude.{◌≡◌, refl, ℕ, zero, suc, ◌+◌, ◌*◌, ◌/◌, ◌^◌, ◌<◌, ◌≤◌, Bool, true, false, if◌then◌else◌, List, [], ◌∷◌, drop, length, take, Option, Some, None}
 use Rattle.std.specs.List.{AllByRecursion}
 use Rattle.std.proofs.Common.{arith}

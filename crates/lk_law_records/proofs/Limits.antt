@@ -28,7 +28,7 @@ use Rattle.lk_law_records.proofs.RowNames.{HasPlainPieces, IsPlainKey, inputs-pl
 use Rattle.lk_law_records.proofs.RowNumbers.{IsSmallRow, small-rows}
 use Rattle.lk_law_records.proofs.TailHeaders.{first_at, headers_at, parts-are, parts-below, strings_of, three_parts}
 
--- ---- what the limits give
+-- ---- what follows where no limit is exceeded
 
 pub limit-reports : (which : LimitKind) (most number : ℕ) → limit_fault which most number ≡ None → number ≤ most
 limit-reports which most number none = go (nat_lt most number) refl none

@@ -1,4 +1,4 @@
--- The records of a full link are read back, and what they say of its pieces are the rows of its placement.
+-- The records of a full link are read back, and the rows of pieces read from them are those of its placement.
 use Rattle.std.specs.Prelude.{◌≡◌, refl, ℕ, suc, nat_eq, ◌+◌, ◌^◌, ◌<◌, true, false, List, [], ◌∷◌, ◌++◌, filter, filter_map, length, map, Some, Ok, slice_get}
 use Rattle.std.specs.List.{AllByRecursion, IsDistinct, enumerate_from, flat_map}
 use Rattle.std.proofs.Common.{arith}

@@ -152,7 +152,7 @@ sections-found r place image laid ok =
 
 -- ---- the placement that it records
 
--- what the sections of records of an image hold
+-- the records read from the record sections of an image
 pub records-reported : (r : Resolved) (place : Placement) (image : List ℕ) → IsFull r place → IsLaidOut (stretches_of r place) image → IsRecordable r place
     → records_in image ≡ Some (read_of_records (records_of r place))
 unfolding records_in

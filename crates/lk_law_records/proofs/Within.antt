@@ -1,5 +1,4 @@
--- A list that lies within another: its items match items of the other in the same order, with others
--- between them.
+-- One list lies within another: its items match items of the other in the same order, with others between them.
 use Rattle.std.specs.Prelude.{◌≡◌, refl, Bool, true, false, List, [], ◌∷◌, ◌++◌, filter, map}
 use Rattle.std.specs.List.{AllByRecursion}
 use Rattle.std.proofs.Common.{◌⊎◌, inl, inr}

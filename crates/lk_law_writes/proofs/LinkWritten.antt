@@ -355,7 +355,7 @@ groups_are_written r place parts zeros groups l static short same =
 
 -- ---- in their order
 
--- a list has the same stretches as itself
+-- a list lies within itself
 same_as_itself : (ss : List Stretch) → HaveSame ss ss
 same_as_itself ss = (each_contained ss, each_contained ss)
 

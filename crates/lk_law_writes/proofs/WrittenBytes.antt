@@ -23,7 +23,7 @@ use Rattle.lk_law_writes.specs.WrittenLaws.{AllEndWithin, AreApart, EndsWithin, 
 pub length_patch : (bytes new : List ℕ) (at : ℕ) → at + length new ≤ length bytes → length (patch bytes at new) ≡ length bytes
 length_patch bytes new at fits = grind (arith, common_steps)
 
--- the part is
+-- the part has the new bytes
 patch_is_at : (bytes new : List ℕ) (at : ℕ) → at + length new ≤ length bytes → IsAt (patch bytes at new) (stretch at new)
 patch_is_at bytes new at fits =
     let front : length (take at bytes) ≡ at = length-take-le at bytes (omega (arith, fits)) in
@@ -105,7 +105,7 @@ writes_keep image s (t ∷ ts) within agree is_at =
     let here = length_patch image t.bytes t.at within.0 in
     writes_keep (patch image t.at t.bytes) s ts (subst (λ n. AllEndWithin n ts) (sym here) within.1) agree.1 (write_keeps image s t within.0 agree.0 is_at)
 
--- a stretch that is written is
+-- a stretch that is written is in the bytes
 pub writes_are_at : (image : List ℕ) (s : Stretch) (ts : List Stretch) → AllEndWithin (length image) ts → AllByRecursion (λ t. Agree t s) ts → Contains ts s → IsAt (written image ts) s
 writes_are_at image s [] within agree (k, below, there) = absurd (omega (arith, below))
 writes_are_at image s (t ∷ ts) within agree (zero, below, there) =

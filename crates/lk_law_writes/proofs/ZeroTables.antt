@@ -47,7 +47,7 @@ free_slots r place [] all = refl
 free_slots r place (None ∷ slots) all = zeros_joined (slot_bytes r place None) (flat_map (slot_bytes r place) slots) refl (free_slots r place slots all)
 free_slots r place (Some key ∷ slots) all = absurd (both_ways false refl all)
 
--- entries that no name has are not there
+-- where no name needs an entry, there are no entries
 no_entries : (entries : List ℕ) → list_all (λ entry. list_any (λ name. name == entry) []) entries ≡ true → entries ≡ []
 no_entries [] all = refl
 no_entries (e ∷ es) all = absurd (both_ways false refl all)

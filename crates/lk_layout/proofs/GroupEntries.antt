@@ -1,5 +1,5 @@
--- The entries of the map as groups: a piece that is put under a key that is there or new gives the groups with
--- one more piece.
+-- The entries of the map as groups: putting a piece under a key that the map has, or under a new one, gives the
+-- groups with one more piece.
 use Rattle.std.proofs.Common.{◌≡◌, refl, sym, ap, subst, ◌∙◌, ℕ, zero, suc, Bool, true, false, cond, List, [], ◌∷◌, ◌++◌, Some, None, position, slice_get}
 use Rattle.std.specs.List.{position_or_len, AllByRecursion}
 use Rattle.indexmap.specs.IndexMap.{insert_entry, set_value_at}
@@ -22,7 +22,7 @@ IsFirst test (g ∷ gs) (suc n) = (test g.0 ≡ false) × IsFirst test gs n
 abbrev IsAbsent : (SectionKey → Bool) → List Group → Type 0
 IsAbsent test groups = AllByRecursion (λ key. test key ≡ false) (keys_in groups)
 
--- a piece of a section that is there
+-- a piece of a section that the map has
 put_first : (groups : List Group) (n : ℕ) (key : SectionKey) (pieces new : List KeptPiece) (piece : KeptPiece) → IsFirst (same_key piece.key) groups n → slice_get groups n ≡ Some (key, pieces) → new ≡ pieces ++ piece ∷ [] → set_value_at groups n new ≡ put_piece groups piece
 put_first [] n key pieces new piece first at is = absurd first
 put_first (g ∷ gs) zero key pieces new piece first at is =
@@ -33,13 +33,13 @@ put_first (g ∷ gs) (suc n) key pieces new piece first at is =
     ap (λ (rest : List Group). g ∷ rest) (put_first gs n key pieces new piece first.1 at is)
     ∙ sym (ap (λ b. cond b (with_last g piece ∷ gs) (g ∷ put_piece gs piece)) first.0)
 
--- a piece of a section that is new
+-- a piece of a section that the map does not have
 put_absent : (groups : List Group) (piece : KeptPiece) → IsAbsent (same_key piece.key) groups → put_piece groups piece ≡ groups ++ (piece.key, piece ∷ []) ∷ []
 put_absent [] piece absent = refl
 put_absent (g ∷ gs) piece absent =
     ap (λ b. cond b (with_last g piece ∷ gs) (g ∷ put_piece gs piece)) absent.0 ∙ ap (λ (rest : List Group). g ∷ rest) (put_absent gs piece absent.1)
 
--- what a write makes of the groups
+-- the groups after a write to the map
 pub record Puts (old : Groups) (piece : KeptPiece) (n : ℕ) (new : Groups) : Type 0 where
   pub number : n ≡ number_in old.sections piece.key
   pub groups : new ≡ record old { sections = put_piece old.sections piece }

@@ -54,7 +54,7 @@ apart : (key k : SectionKey) (keys : List SectionKey) → same_key key k ≡ tru
 apart key k [] same h = tt
 apart key k (y ∷ ys) same h = (same_key_equiv.congr key k y same ∙ h.0, apart key k ys same h.1)
 
--- a piece of a section that is there
+-- a piece of a section that has a group
 there : (done : List KeptPiece) (p : KeptPiece) (keys : List SectionKey) → IsDistinct same_key keys → is_among p.key keys ≡ true → put_piece (map (group_of done) keys) p ≡ map (group_of (done ++ p ∷ [])) keys
 unfolding IsDistinct
 there done p [] differ any = absurd (cc)
@@ -69,7 +69,7 @@ there done p (k ∷ keys) differ any = go (same_key p.key k) refl any (there don
     go true e a rest = λ i. own_group done p k e i ∷ others done p keys (apart p.key k keys e differ.0) i
     go false e a rest = λ i. other_group done p k e i ∷ rest a i
 
--- a piece of a section that is new
+-- a piece of a section that has no group yet
 pub none_of : (key : SectionKey) (done : List KeptPiece) → is_among key (map key_of_piece done) ≡ false → pieces_in key done ≡ []
 none_of key [] none = refl
 none_of key (q ∷ qs) none = go (same_key key q.key) refl none (none_of key qs)

@@ -1,4 +1,4 @@
--- The kept pieces of a resolution are those that lk_model resolves.
+-- The kept pieces of the code's `Resolution` are those of lk_model.
 use Rattle.std.specs.Prelude.{◌≡◌, refl, ℕ, List, ◌++◌, Result}
 use Rattle.std.proofs.Common.{sym, ap, subst, ◌∙◌}
 use Rattle.lk_report.specs.declared.causes.OptionRecord.{OptionRecord}
@@ -64,7 +64,7 @@ resolved_patch : (options : OptionRecord) (xs : List Input) → (resolve options
 unfolding resolve
 resolved_patch options xs = refl
 
--- so what is placed is the full placement
+-- the code's placement is lk_model's full placement
 pub layout_reported : (options : OptionRecord) (xs : List Input) (needs : Needs) (kept : List KeptPiece) (sizes : List (SectionKey × ℕ)) (slots : SlotTable) (result : Result Placement LayoutFault)
     → (resolve options xs).needs ≡ needs
     → kept ≡ (resolve options xs).kept

@@ -1,4 +1,4 @@
--- Keys that are in a list once: what is at the place of a key.
+-- Lists of distinct keys: the item at the place of a key.
 use Rattle.std.specs.Prelude.{◌≡◌, refl, ℕ, zero, suc, ◌+◌, Bool, true, false, cond, not, ◌||◌, List, [], ◌∷◌, ◌++◌, fold, length, map, Some, slice_get, slice_set}
 use Rattle.std.specs.List.{AllByRecursion, IsDistinct, list_any, position_or_len}
 use Rattle.std.proofs.Common.{sym, ap, ◌∙◌, arith, get_or}
@@ -71,7 +71,7 @@ none_differ = tt
 pub once_differ : (keys : List SectionKey) → IsDistinct same_key (each_once keys)
 once_differ keys = once_from [] keys none_differ
 
--- what is made of the key at its place
+-- the image of the key at its place
 pub at_key : {X : Type 0} (f : SectionKey → X) (keys : List SectionKey) (key : SectionKey) → is_among key keys ≡ true → slice_get (map f keys) (place_in keys key) ≡ Some (f key)
 at_key f [] key any = absurd (cc)
 at_key {X} f (k ∷ keys) key any = go (same_key key k) refl any (at_key f keys key)
@@ -89,7 +89,7 @@ others_stay : {X : Type 0} (f g : SectionKey → X) (key : SectionKey) (keys : L
 others_stay f g key [] stays h = refl
 others_stay f g key (y ∷ ys) stays h = λ i. stays y h.0 i ∷ others_stay f g key ys stays h.1 i
 
--- what is made of the keys, where it changes at one key alone
+-- the images of the keys, under a map that changes at one key alone
 pub change_key : {X : Type 0} (f g : SectionKey → X) (keys : List SectionKey) (key : SectionKey) → IsDistinct same_key keys → is_among key keys ≡ true → ((k : SectionKey) → same_key key k ≡ false → f k ≡ g k) → slice_set (map f keys) (place_in keys key) (g key) ≡ map g keys
 unfolding IsDistinct
 change_key f g [] key differ any stays = absurd (cc)

@@ -1,4 +1,4 @@
--- What is measured of groups is what lk_model places.
+-- The measures of groups are those of lk_model's placement.
 use Rattle.std.specs.Prelude.{◌≡◌, refl, ℕ, suc, ◌+◌, ◌<◌, ◌≤◌, ◌^◌, nat_lt, Bool, true, false, cond, not, if◌then◌else◌, ◌||◌, List, [], ◌∷◌, ◌++◌, filter, find, length, map, Option, Some, None}
 use Rattle.std.specs.List.{list_any}
 use Rattle.std.specs.Option.{option_map_or}
@@ -75,7 +75,7 @@ map_alike : {A B : Type 0} (f g : A → B) → ((x : A) → f x ≡ g x) → (xs
 map_alike f g h [] = refl
 map_alike f g h (x ∷ xs) = λ i. h x i ∷ map_alike f g h xs i
 
--- ---- what the groups of all pieces say
+-- ---- the placement by the groups of all pieces
 
 pub record PlacementParts (patch : ℕ) (all : List KeptPiece) (sizes : List (SectionKey × ℕ)) (slots : SlotTable) (keys : List SectionKey) (rows : List SectionRow) : Type 0 where
   pub place : place_in rows all slots ≡ placement_of patch all sizes slots
@@ -90,7 +90,7 @@ unfolding groups_of
 extents_are patch all sizes keys =
     map_alike (extent_under patch sizes (map (group_of all) (keys_of all))) (extent_in patch all sizes) (λ key. ap (extent_with (size_among sizes key) patch key) (under_is all key)) keys
 
--- the number of sections is known before they are measured
+-- the number of sections, which is counted before their sizes are measured
 pub count_reported : (patch : ℕ) (all : List KeptPiece) (sizes : List (SectionKey × ℕ)) (slots : SlotTable) (groups : Groups) (keys : List SectionKey) → groups ≡ groups_of all → keys ≡ ordered_keys sizes groups.sections → section_count (placement_of patch all sizes slots) ≡ length keys
 unfolding placement_of
 count_reported patch all sizes slots groups keys same keys_so =

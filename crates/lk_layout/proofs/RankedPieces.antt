@@ -1,4 +1,4 @@
--- What the numbers of pieces say of the pieces.
+-- The pieces of an array of functions, by the numbers in their names.
 use Rattle.std.specs.Prelude.{◌≡◌, refl, ℕ, zero, suc, ◌+◌, ◌==◌, nat_lt, Bool, true, false, cond, List, [], ◌∷◌, ◌++◌, filter, fold, map, take, take_while}
 use Rattle.std.specs.List.{prefix_len}
 use Rattle.std.proofs.Common.{sym, ap, ◌∙◌, subst}
@@ -77,7 +77,7 @@ offsets_are all earlier (p ∷ ps) =
     ap (λ rs. lane_offsets (map ranked_of (by_number all)) rs (map ranked_of ps)) (sym (map-append ranked_of earlier (p ∷ []))) ∙ offsets_are all (earlier ++ p ∷ []) ps in
     λ i. here i ∷ later i
 
--- what the sorted pieces say of an array of functions
+-- the offsets, the end and the alignment of an array of functions are those of its sorted pieces
 pub record ArrayReported (pieces : List KeptPiece) (ranked sorted : List Ranked) : Type 0 where
   pub offsets : lane_offsets sorted [] ranked ≡ array_offsets pieces [] pieces
   pub end : ranked_end sorted ≡ sequence_end (by_number pieces)

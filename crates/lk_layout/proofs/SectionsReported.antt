@@ -1,4 +1,4 @@
--- The kept sections of a resolution are lk_model's.
+-- The kept sections of the code's `Resolution` are those of lk_model.
 use Rattle.std.specs.Prelude.{◌≡◌, refl, ℕ, ◌==◌, ◌&&◌, ◌||◌, not, Bool, true, false, cond, List, [], ◌∷◌, ◌++◌, filter, flat_map, map, Some, slice_get}
 use Rattle.std.specs.List.{AllByRecursion, list_any}
 use Rattle.std.proofs.Common.{sym, ap, ◌∙◌, arith}
@@ -37,8 +37,8 @@ eq_self a = grind (arith, nat_tests)
 eq_reports : (a b : ℕ) → (a == b) ≡ true → a ≡ b
 eq_reports a b e = grind (arith, nat_tests)
 
--- a section of an input is among those of its pieces that pass a test of their numbers exactly where it is one
--- of its pieces and passes
+-- a section is among the pieces of an input whose numbers pass a test exactly where it is one of the input's pieces
+-- and its number passes
 any_left : (t : ℕ → Bool) (input section : ℕ) (pieces : List PieceInfo)
     → list_any (is_section_piece input section) (map (section_piece input) (filter (λ (p : PieceInfo). t p.section) pieces))
     ≡ (list_any (λ (p : PieceInfo). p.section == section) pieces && t section)
@@ -97,7 +97,7 @@ none_later claimed (y ∷ ys) n section apart =
     ∙ ap (λ b. b || list_any (is_section_piece n section) (all_left (claimed ++ signatures_in y.summary) ys)) (other_left claimed y n section (eq_back n y.number apart.0))
     ∙ none_later (claimed ++ signatures_in y.summary) ys n section apart.1
 
--- none of the inputs has a section among pieces
+-- no input has this section among its pieces
 abbrev NoneAmong : List KeptPiece → List Numbered → Type 0
 NoneAmong before xs = AllByRecursion (λ (y : Numbered). (section : ℕ) → list_any (is_section_piece y.number section) before ≡ false) xs
 
@@ -111,7 +111,7 @@ none_on before claimed x (y ∷ ys) none apart = (
   none_on before claimed x ys none.1 apart.1,
 )
 
--- whether a section is kept is whether its input leaves it
+-- a section is kept exactly where its input keeps it
 kept_is : (before : List KeptPiece) (claimed : List (List ℕ)) (x : Numbered) (xs : List Numbered) → NoneAmong before (x ∷ xs) → Apart (x ∷ xs) → (section : ℕ) → list_any (is_section_piece x.number section) (before ++ all_left claimed (x ∷ xs)) ≡ is_left claimed x.summary section
 kept_is before claimed x xs none apart section =
     let test = is_section_piece x.number section in

@@ -15,7 +15,7 @@ use Rattle.lk_symtab.specs.NameRows.{NameRow, row_winner}
 abbrev pub kept_among : List SectionPlace → ℕ → List PieceInfo → List KeptPiece
 kept_among places input pieces = map (section_piece input) (filter (λ (p : PieceInfo). is_place_kept places input p.section) pieces)
 
--- the pieces of an input; none where there is no such input
+-- the pieces of an input; none where no input has the number
 abbrev pub pieces_from : Option InputSummary → List PieceInfo
 pieces_from None = []
 pieces_from (Some summary) = summary.pieces

@@ -1,4 +1,4 @@
--- This project's own: what laying out a link answers.
+-- This project's own: the answer of the layout of a link.
 use Rattle.std.specs.Prelude.{◌≡◌, ℕ, ◌≤◌, ◌^◌, nat_lt, if◌then◌else◌, List, ◌++◌, map, Option, Some, None, Result, Ok, Err}
 use Rattle.lk_report.specs.declared.statuses.LimitFault.{LimitFault}
 use Rattle.lk_report.specs.declared.statuses.LimitKind.TheVariants as limit
@@ -13,7 +13,7 @@ use Rattle.lk_model.specs.SectionOrder.{in_order}
 use Rattle.lk_model.specs.Views.{KeptPiece, Resolved}
 use Rattle.lk_layout.specs.Grouping.{keys_of}
 
--- so many output sections a link may have, and so much memory it may take
+-- the greatest number of output sections of a link, and the most memory that it takes
 abbrev pub most_sections : ℕ
 most_sections = 60000
 
@@ -27,13 +27,13 @@ layout_limit place =
     else if nat_lt most_memory (memory_of place) then Some (record { which = limit.Memory; number = memory_of place })
     else None
 
--- what laying out answers, where this is the placement; out of memory is free
+-- the answer of the layout, where this is the placement; out of memory may come at any time
 abbrev pub PlaceGives : Placement → Result Placement LayoutFault → Type 0
 PlaceGives full (Ok place) = (section_count full ≤ most_sections) × (memory_of full ≤ most_memory) × (place ≡ full)
 PlaceGives full (Err (fault.Limit l)) = layout_limit full ≡ Some l
 PlaceGives full (Err fault.NoMemory) = Unit {0}
 
--- what laying out a link answers, of which resolution finds this
+-- the answer of the layout of a link, where resolution finds this
 abbrev pub LayoutGives : Resolved → Result Placement LayoutFault → Type 0
 LayoutGives r result = PlaceGives (full_place r) result
 

@@ -7,11 +7,11 @@ use Rattle.lk_model.specs.SectionKeys.{same_key}
 use Rattle.lk_layout.specs.declared.row_places.RowPlace.{RowPlace}
 use Rattle.lk_layout.specs.PieceRows.{row_place_after}
 
--- what is known of the key `k`, once a home of a key was noted where there was none
+-- the first row of the key `k`, once a row of `key` was noted
 abbrev pub row_place_noted : Option RowPlace → SectionKey → RowPlace → SectionKey → Option RowPlace
 row_place_noted (Some h) key row_place k = Some h
 row_place_noted None key row_place k = cond (same_key k key) (Some row_place) None
 
--- the home of a key among rows whose numbers go on from a first one
+-- the first row of a key, among rows that are numbered from a first number on
 abbrev pub row_place_from : ℕ → List SectionRow → SectionKey → Option RowPlace
 row_place_from n rows key = option_map row_place_after (find (λ (entry : ℕ × SectionRow). same_key entry.1.key key) (enumerate_from n rows))

@@ -1,4 +1,4 @@
--- What marks say: where no byte was marked before, a field meets a mark exactly where it shares a byte
+-- Marks on the bytes of a target: where no byte was marked before, a field meets a mark exactly where it shares a byte
 -- with an earlier field; and once all fields are cleared again, no byte is marked.
 use Rattle.std.specs.Prelude.{◌≡◌, refl, ℕ, zero, suc, ◌+◌, ◌<◌, ◌≤◌, Bool, true, false, not, ◌&&◌, ◌||◌, cond, nat_lt, nat_le, List, [], ◌∷◌, ◌++◌, length, replicate, slice_index_or, slice_set, Some}
 use Rattle.std.specs.List.{list_any}
@@ -195,7 +195,7 @@ rows_fit size bytes (row ∷ rows) f =
 
 -- ---- a target
 
--- where no byte was marked, what is reported is the first field that shares a byte with an earlier one
+-- where no byte was marked, the overlap found is the first field that shares a byte with an earlier one
 pub overlaps_reported : (marks : List Bool) (bytes : List ℕ) (rows : List (ℕ × Shdr)) → marks ≡ replicate (length marks) false → RowsFit (length marks) bytes rows → overlap_marked marks (sites_of bytes rows) ≡ first_fault (overlap_checks_after [] (sites_of bytes rows))
 overlaps_reported marks bytes rows e f =
     reported (length marks) (sites_of bytes rows) (rows_fit (length marks) bytes rows f) marks [] refl

@@ -1,5 +1,5 @@
--- The sections of relocations that are to be marked have the same overlaps as all of a target: where each
--- target has one at most, one of fields that rise reports of none.
+-- The sections of relocations that are to be marked have the same first overlap as all those on a target: where each
+-- target has at most one, no two fields of a section whose fields rise overlap.
 use Rattle.std.specs.Prelude.{◌≡◌, refl, ℕ, ◌+◌, ◌==◌, ◌<◌, Bool, true, false, not, ◌&&◌, cond, nat_le, List, [], ◌∷◌, drop, filter, None}
 use Rattle.std.specs.List.{enumerate_from}
 use Rattle.std.proofs.Common.{sym, ◌∙◌, ap, subst, arith}
@@ -61,7 +61,7 @@ where-rising elf t n least (header ∷ headers) e =
 all-marked : (elf : Elf) (t : ℕ) (rows : List (ℕ × Shdr)) → filter (is_marked_row elf false t) rows ≡ filter (is_row_on elf t) rows
 all-marked elf t rows = filter-same (is_marked_row elf false t) (is_row_on elf t) (λ row. and-right (is_row_on elf t row) true) rows
 
--- what is to be marked of a target reports of the same first overlap as all of it
+-- the first overlap among the sections that are to be marked is that among all on the target
 pub marked_reported : (elf : Elf) (rise : Bool) (t : ℕ) → (rise ≡ true → targets_rise 0 (drop 1 elf.sections) ≡ true) → overlap_of elf.bytes (marked_rows elf rise t) ≡ overlap_of elf.bytes (piece_rows elf t)
 marked_reported elf true t h = where-rising elf t 1 0 (drop 1 elf.sections) (h refl) ∙ ap (overlap_of elf.bytes) (rows_reported elf t)
 marked_reported elf false t h = ap (overlap_of elf.bytes) (all-marked elf t (enumerate_from 1 (drop 1 elf.sections)) ∙ rows_reported elf t)

@@ -17,7 +17,7 @@ use Rattle.lk_obj_parts.proofs.Rows.{rows_next, rows_done}
 
 -- ---- names
 
--- a name is reported without the file's header and symbols
+-- the name of a symbol does not depend on the file's header and symbols
 pub name_reported : (elf : Elf) (strings offset : ℕ) → name_at elf strings offset ≡ name_in elf.bytes elf.sections strings offset
 unfolding name_at name_in
 name_reported elf zero offset = refl
@@ -38,7 +38,7 @@ symbol_reported elf k d l =
 
 -- ---- symbols that are not LOCAL
 
--- what a symbol adds before those after it
+-- what a symbol adds to the list before those after it
 added : (elf : Elf) (k : ℕ) (symbol : Sym) (t : Bool) (rows : List (ℕ × Sym)) → filter_map (λ (r : ℕ × Sym). option_map (global_with r.0 r.1) (symbol_name elf r.0)) (cond (not t) ((k, symbol) ∷ filter (λ (r : ℕ × Sym). not (is_local r.1)) rows) (filter (λ (r : ℕ × Sym). not (is_local r.1)) rows)) ≡ cons_option (cond t None (global_named k symbol (symbol_name elf k))) (filter_map (λ (r : ℕ × Sym). option_map (global_with r.0 r.1) (symbol_name elf r.0)) (filter (λ (r : ℕ × Sym). not (is_local r.1)) rows))
 added elf k symbol true rows = refl
 added elf k symbol false rows = refl

@@ -1,5 +1,5 @@
--- The section table and its sections are reported without the symbols: what is said of a file whose symbols
--- are not read yet holds of it with any symbols. And the file that bytes are, by its parts.
+-- The section table and its sections do not depend on the symbols: what holds of a file whose symbols are not read
+-- yet holds of it with any symbols. And the file that bytes are, by its parts.
 use Rattle.std.specs.Prelude.{◌≡◌, refl, ℕ, zero, suc, ◌++◌, List, [], ◌∷◌, flat_map, Option, Some, None, option_and_then}
 use Rattle.std.proofs.Common.{ap, ◌∙◌}
 use Rattle.lk_elf.specs.Numbers.{sht_symtab}

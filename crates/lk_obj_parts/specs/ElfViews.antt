@@ -1,5 +1,5 @@
--- A file as code holds it (gABI "ELF Header", "Sections", "Symbol Table"): its bytes, and beside them
--- the parts that were read from it, which the definitions take together.
+-- A file in the code (gABI "ELF Header", "Sections", "Symbol Table"): its bytes, and beside them the parts that were
+-- read from it, which the definitions have in one record.
 use Rattle.std.specs.Prelude.{ℕ, zero, suc, ◌==◌, Bool, List, slice_get, Option, None}
 use Rattle.lk_elf.specs.declared.file_header.Ehdr.{Ehdr}
 use Rattle.lk_elf.specs.declared.section_header.Shdr.{Shdr}

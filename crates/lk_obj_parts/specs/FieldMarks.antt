@@ -58,7 +58,7 @@ abbrev pub FieldsFit : ℕ → List ℕ → Shdr → Type 0
 FieldsFit size bytes header =
     (k : ℕ) → k < entry_count bytes header → (entry_at bytes header k).r_offset + field_width (entry_at bytes header k) ≤ size
 
--- those of each of these sections do
+-- the fields of each of these sections fit in it
 abbrev pub RowsFit : ℕ → List ℕ → List (ℕ × Shdr) → Type 0
 RowsFit size bytes [] = Unit {0}
 RowsFit size bytes (row ∷ rows) = FieldsFit size bytes row.1 × RowsFit size bytes rows

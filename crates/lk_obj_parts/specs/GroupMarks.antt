@@ -1,5 +1,5 @@
--- The groups of an object after one another (gABI "Section Groups"): the section numbers that earlier
--- groups claimed are known by marks, one for each section, so that no group is kept against each other.
+-- The groups of an object, one after another (gABI "Section Groups"): marks, one for each section, have the section
+-- numbers that earlier groups claimed, so that no group is compared with each other one.
 use Rattle.std.specs.Prelude.{ℕ, ◌+◌, ◌==◌, Bool, true, not, ◌||◌, if◌then◌else◌, nat_eq, List, [], ◌∷◌, map, fold, slice_get, slice_set, Option, Some, None, is_some, is_none}
 use Rattle.std.specs.List.{list_all, list_any, range_with_len}
 use Rattle.std.specs.Option.{option_or}
@@ -45,12 +45,12 @@ abbrev pub are_bad_members : List Shdr → List Bool → List ℕ → Bool
 are_bad_members sections marks members =
     not (list_all (is_section_in sections) members) || list_any (is_marked marks) members
 
--- the fault of a group after those that claimed what is marked
+-- the fault of a group, where earlier groups claimed the marked sections
 unfoldable pub marked_fault : Elf → List Bool → ℕ → Shdr → Option InputFault
 marked_fault elf marks n header =
     if is_bad_head elf header || are_bad_members elf.sections marks (members_in elf.bytes header) then Some (BadGroup n) else None
 
--- a number is marked besides
+-- marks with one more number
 abbrev pub with_mark : List Bool → ℕ → List Bool
 with_mark marks n = slice_set marks n true
 
@@ -58,17 +58,17 @@ with_mark marks n = slice_set marks n true
 abbrev pub is_group : Shdr → Bool
 is_group header = header.sh_type == sht_group
 
--- the fault of a section after groups that claimed what is marked; a section that is no group has none
+-- the fault of a section, where earlier groups claimed the marked sections; one that is no group has none
 unfoldable pub fault_if_group : Elf → List Bool → ℕ → Shdr → Option InputFault
 fault_if_group elf marks n header = if header.sh_type == sht_group then marked_fault elf marks n header else None
 
--- what is marked after a section
+-- the marks after a section
 unfoldable pub marks_after : Elf → List Bool → Shdr → List Bool
 marks_after elf marks header =
     if header.sh_type == sht_group then fold with_mark marks (members_in elf.bytes header) else marks
 
--- the first fault of the groups among these sections, the first of which has this number, after those
--- that claimed what is marked
+-- the first fault of the groups among these sections, the first of which has this number, where earlier groups
+-- claimed the marked sections
 unfoldable pub marked_faults : Elf → List Bool → ℕ → List Shdr → Option InputFault
 marked_faults elf marks n [] = None
 marked_faults elf marks n (header ∷ headers) =

@@ -1,4 +1,4 @@
--- The checks of relocations in parts (gABI "Relocation"): what a section of them says of itself, its
+-- The checks of relocations in parts (gABI "Relocation"): those of the header of a section of relocations, those of its
 -- entries on a piece, and section after section.
 use Rattle.std.specs.Prelude.{ℕ, ◌==◌, ◌%◌, Bool, false, not, cond, List, [], ◌∷◌, flat_map, nat_lt, Option, Some, None, option_map, find}
 use Rattle.std.specs.List.{enumerate_from}
@@ -25,7 +25,7 @@ abbrev pub table_number : ℕ → List Shdr → Option ℕ
 table_number n headers =
     option_map (λ (row : ℕ × Shdr). row.0) (find (λ (row : ℕ × Shdr). row.1.sh_type == sht_symtab) (enumerate_from n headers))
 
--- what a section of relocations says of itself
+-- the checks of the header of a section of relocations
 unfoldable pub head_checks : Elf → ℕ → Shdr → List (Bool × InputFault)
 head_checks elf n header =
     (not (header.sh_entsize == rela_size), BadTable n)

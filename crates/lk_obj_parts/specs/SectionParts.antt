@@ -1,5 +1,5 @@
--- The checks of a section in two parts (gABI "Sections"): where its bytes are, and what it is by its
--- name, type and flags. One after the other they are the checks of a section.
+-- The checks of a section in two parts (gABI "Sections"): the range of its bytes and its alignment; and its name, type
+-- and flags. One after the other they are the checks of a section.
 use Rattle.std.specs.Prelude.{ℕ, ◌==◌, Bool, not, ◌&&◌, ◌||◌, List, [], ◌∷◌, Option, is_none, flat_map}
 use Rattle.std.specs.List.{enumerate_from}
 use Rattle.lk_elf.specs.Numbers.{sht_null, sht_nobits}
@@ -17,14 +17,14 @@ is_cut_off_in bytes header =
     not (header.sh_type == sht_null || header.sh_type == sht_nobits)
     && not (lies_in bytes header.sh_offset header.sh_size)
 
--- where a section's bytes are
+-- the checks of the range of a section's bytes and of its alignment
 unfoldable pub place_checks : List ℕ → ℕ → Shdr → List (Bool × InputFault)
 place_checks bytes n header =
     (is_cut_off_in bytes header, BadTable n)
     ∷ (not (is_alignment header.sh_addralign), BadTable n)
     ∷ []
 
--- what a section is that has a name
+-- the checks of the type and flags of a section with this name
 unfoldable pub named_checks : ℕ → Shdr → List ℕ → List (Bool × InputFault)
 named_checks n header name =
     (is_compressed header name, Compressed n)
@@ -32,7 +32,7 @@ named_checks n header name =
     ∷ (is_unknown_alloc header, UnknownAlloc n)
     ∷ []
 
--- what a section is, by its name
+-- the checks of the name, type and flags of a section
 unfoldable pub name_checks : ℕ → Shdr → Option (List ℕ) → List (Bool × InputFault)
 name_checks n header name =
     (is_none name, BadName n)

@@ -32,7 +32,7 @@ refused_tables false rows = drop 1 (filter is_table rows)
 abbrev pub refused_fault : List (ℕ × Shdr) → Option InputFault
 refused_fault rows = first_fault (map (λ (row : ℕ × Shdr). (true, BadTable row.0)) rows)
 
--- what the header of the symbol table says, of a file with this many symbols
+-- the checks of the header of the symbol table, in a file with this many symbols
 unfoldable pub form_checks : List Shdr → ℕ → ℕ → Shdr → List (Bool × InputFault)
 form_checks sections count n header =
     (not (header.sh_entsize == sym_size), BadTable n)
@@ -42,7 +42,7 @@ form_checks sections count n header =
     ∷ (nat_lt count header.sh_info, BadTable n)
     ∷ []
 
--- the string section that the symbol table names; number 0, which no section has, where there is no table
+-- the number of the string table that the symbol table names; 0, which no section has, without a symbol table
 abbrev pub strings_named : Option (ℕ × Shdr) → ℕ
 strings_named None = 0
 strings_named (Some table) = table.1.sh_link
@@ -69,7 +69,7 @@ is_stray_tls_in sections symbol =
     && (is_local symbol || not (symbol.st_shndx == shn_undef))
     && (symbol.st_shndx == shn_abs || not (is_tls_section_in sections symbol.st_shndx))
 
--- its name and its section
+-- the checks of its name and its section
 unfoldable pub entry_checks : List Shdr → ℕ → Sym → Option (List ℕ) → List (Bool × InputFault)
 entry_checks sections k symbol name =
     (is_none name, BadSymbol k)
@@ -77,14 +77,14 @@ entry_checks sections k symbol name =
     ∷ (not (is_symbol_section_in sections symbol.st_shndx), BadSymbol k)
     ∷ []
 
--- its binding by its number
+-- the checks that LOCAL symbols come before the others, and that the others have names
 unfoldable pub side_checks : ℕ → ℕ → Sym → Option (List ℕ) → List (Bool × InputFault)
 side_checks first k symbol name =
     (is_misplaced first k symbol, BadSymbol k)
     ∷ (nat_le first k && is_some_with (λ text. length text == 0) name, BadSymbol k)
     ∷ []
 
--- what it is
+-- the checks of its type and binding, of the alignment of a common block, and of thread-local storage
 unfoldable pub sort_checks : List Shdr → ℕ → Sym → List (Bool × InputFault)
 sort_checks sections k symbol =
     (is_unsupported_symbol symbol, UnsupportedSymbol k)
@@ -92,7 +92,7 @@ sort_checks sections k symbol =
     ∷ (is_stray_tls_in sections symbol, BadSymbol k)
     ∷ []
 
--- the three together
+-- all checks of a symbol
 unfoldable pub checks_in : List Shdr → ℕ → ℕ → Sym → Option (List ℕ) → List (Bool × InputFault)
 checks_in sections first k symbol name = entry_checks sections k symbol name ++ (side_checks first k symbol name ++ sort_checks sections k symbol)
 

@@ -23,7 +23,7 @@ is_row_on elf t row = (row.1.sh_type == sht_rela && row.1.sh_info == t) && is_pi
 abbrev pub rows_on : Elf → ℕ → ℕ → List Shdr → List (ℕ × Shdr)
 rows_on elf t n headers = filter (is_row_on elf t) (enumerate_from n headers)
 
--- one that is to be marked: where the targets rise, no section of fields that rise
+-- whether a section is to be marked: where the targets rise, a section whose fields rise is not
 abbrev pub is_marked_row : Elf → Bool → ℕ → ℕ × Shdr → Bool
 is_marked_row elf rise t row = is_row_on elf t row && not (rise && fields_rise elf.bytes row.1)
 

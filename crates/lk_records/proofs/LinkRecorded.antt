@@ -1,14 +1,16 @@
--- What is gathered of inputs is what lk_model records of them.
-use Rattle.std.proofs.Common.{◌≡◌, refl, sym, ap, ◌∙◌, ℕ, suc, ◌+◌, List, [], ◌∷◌, length, map, filter_map, zip, IfOk, Result, Ok, Err}
-use Rattle.std.specs.List.{cons_option, enumerate_from}
+-- The records that are made of inputs are those of lk_model.
+use Rattle.std.proofs.Common.{◌≡◌, refl, sym, ap, ◌∙◌, arith, ℕ, suc, ◌+◌, nat_eq, ◌==◌, ◌||◌, List, [], ◌∷◌, length, map, filter_map, zip, IfOk, Result, Ok, Err}
+use Rattle.std.proofs.lemmas.Bool.Decides.{nat_tests}
+use Rattle.std.specs.List.{cons_option, enumerate_from, list_any, range_with_len}
 use Rattle.lk_report.specs.declared.causes.OptionRecord.{OptionRecord}
 use Rattle.lk_report.specs.declared.memory.NoMemory.{NoMemory}
 use Rattle.lk_model.specs.declared.layouts.Placement.{Placement}
-use Rattle.lk_model.specs.declared.records.InputRecord.{InputRecord}
 use Rattle.lk_model.specs.declared.records.NameRow.{NameRow as RecordedRow}
 use Rattle.lk_model.specs.declared.records.Records.{Records}
 use Rattle.lk_model.specs.declared.records.Reference.{Reference}
 use Rattle.lk_model.specs.declared.summaries.InputSummary.{InputSummary}
+use Rattle.lk_marks.specs.Marked.{marks_of}
+use Rattle.lk_model.specs.Numbered.{is_number_in}
 use Rattle.lk_model.specs.RecordsOf.{input_record, name_row, recorded_reference, recorded_through, records_of}
 use Rattle.lk_model.specs.References.{recorded, recorded_of}
 use Rattle.lk_model.specs.Resolving.{paths_of, resolve}
@@ -19,9 +21,8 @@ use Rattle.lk_resolve.specs.Given.{found_in}
 use Rattle.lk_model.specs.declared.input_names.InputName.{InputName}
 use Rattle.lk_resolve.specs.Settling.{IsFound, ResolutionValue}
 use Rattle.lk_symtab.specs.NameRows.{NameRow, all_symbols, row_winner}
-use Rattle.lk_records.specs.AddedMarks.{marks_from}
 use Rattle.lk_records.specs.Gathered.{gathered}
-use Rattle.lk_records.specs.InputRecords.{records_with}
+use Rattle.lk_records.specs.InputRecords.{record_with, records_with}
 use Rattle.lk_records.specs.NameRecords.{recorded_name}
 use Rattle.lk_records.specs.Occurrences.{OccurrencesAreRight, name_path, occurrence_of, occurrences_after}
 
@@ -35,16 +36,23 @@ as_many : (xs : List Input) → length (map name_of xs) ≡ length xs
 as_many [] = refl
 as_many (x ∷ xs) = ap suc (as_many xs)
 
-inputs_reported : (added : List ℕ) (first : ℕ) (xs : List Input) → records_with (map name_of xs) (map occurrence_of xs) (marks_from added first (length xs)) (map input_summary xs) ≡ map (input_record added) (enumerate_from first xs)
+turned : (a b : ℕ) → nat_eq a b ≡ (b == a)
+turned a b = grind (arith, nat_tests)
+
+among : (added : List ℕ) (n : ℕ) → is_number_in added n ≡ list_any (λ m. m == n) added
+among [] n = refl
+among (m ∷ added) n = λ i. turned n m i || among added n i
+
+inputs_reported : (added : List ℕ) (first : ℕ) (xs : List Input) → records_with (map name_of xs) (map occurrence_of xs) (map (is_number_in added) (range_with_len first (length xs))) (map input_summary xs) ≡ map (input_record added) (enumerate_from first xs)
 inputs_reported added first [] = refl
-inputs_reported added first (x ∷ xs) = ap (λ (rows : List InputRecord). input_record added (first, x) ∷ rows) (inputs_reported added (first + 1) xs)
+inputs_reported added first (x ∷ xs) = λ i. record_with (name_of x) x.occurrence (among added first i) (input_summary x) ∷ inputs_reported added (first + 1) xs i
 
 inputs_recorded : (added : List ℕ) (xs : List Input) → OccurrencesAreRight xs
-    → records_with (map name_of xs) (occurrences_after [] (map name_path (map name_of xs))) (marks_from added 0 (length (map name_of xs))) (map input_summary xs) ≡ map (input_record added) (enumerate_from 0 xs)
+    → records_with (map name_of xs) (occurrences_after [] (map name_path (map name_of xs))) (marks_of added (length (map name_of xs))) (map input_summary xs) ≡ map (input_record added) (enumerate_from 0 xs)
 inputs_recorded added xs right =
-    ap (λ (ps : List (List ℕ)). records_with (map name_of xs) (occurrences_after [] ps) (marks_from added 0 (length (map name_of xs))) (map input_summary xs)) (paths_reported xs)
-    ∙ ap (λ n. records_with (map name_of xs) (occurrences_after [] (paths_of xs)) (marks_from added 0 n) (map input_summary xs)) (as_many xs)
-    ∙ ap (λ ns. records_with (map name_of xs) ns (marks_from added 0 (length xs)) (map input_summary xs)) (sym right)
+    ap (λ (ps : List (List ℕ)). records_with (map name_of xs) (occurrences_after [] ps) (marks_of added (length (map name_of xs))) (map input_summary xs)) (paths_reported xs)
+    ∙ ap (λ n. records_with (map name_of xs) (occurrences_after [] (paths_of xs)) (marks_of added n) (map input_summary xs)) (as_many xs)
+    ∙ ap (λ ns. records_with (map name_of xs) ns (marks_of added (length xs)) (map input_summary xs)) (sym right)
     ∙ inputs_reported added 0 xs
 
 -- ---- the names

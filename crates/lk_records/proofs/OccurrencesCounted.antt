@@ -1,4 +1,4 @@
--- A map counts how often paths were noted, and so how many before each are the same.
+-- A map counts how often each path came, which gives for each input how many before it have its path.
 use Rattle.std.proofs.Common.{◌≡◌, refl, sym, ap, ◌∙◌, ℕ, suc, ◌+◌, ◌<◌, ◌≤◌, add-one, Bool, true, false, cond, if◌then◌else◌, List, [], ◌∷◌, ◌++◌, append-nil, append_assoc, filter, get_or, drop, drop-cons, length, map, Option, Some, filter_map}
 use Rattle.std.proofs.lemmas.List.{drop_all}
 use Rattle.std.proofs.lemmas.Slice.Eq.{bytes_eq-Decides}
@@ -68,7 +68,7 @@ one_more es after done new all count i names name path within is named noted pus
     ∙ ap (λ (fs : List InputName). done ++ occurrences_by (count_under es) (map name_path fs)) (sym (drop-cons names i name within))
     ∙ so_far
 
--- counts that are those of earlier paths
+-- counts that are those of the earlier paths
 counts_reported : (counts : List ℕ → ℕ) (earlier paths : List (List ℕ)) → ((path : List ℕ) → counts path ≡ count_of path earlier) → occurrences_by counts paths ≡ occurrences_after earlier paths
 counts_reported counts earlier [] h = refl
 counts_reported counts earlier (path ∷ paths) h =
@@ -79,7 +79,7 @@ counts_reported counts earlier (path ∷ paths) h =
     more other true e = ap (λ n. n + 1) e ∙ add-one (count_of other earlier)
     more other false e = e
 
--- once all of them were noted
+-- the occurrences of all paths, once each was noted
 pub all_counted : (es : List (Bor (List ℕ) × ℕ)) (done : List ℕ) (i : ℕ) (names : List InputName) → length names ≤ i
     → done ++ occurrences_by (count_under es) (map name_path (drop i names)) ≡ occurrences_by (λ path. 0) (map name_path names) → done ≡ occurrences_after [] (map name_path names)
 all_counted es done i names all so_far =

@@ -1,9 +1,7 @@
 -- The records of inputs and the rows of names, made one after another.
-use Rattle.std.proofs.Common.{◌≡◌, refl, sym, ap, ◌∙◌, ℕ, zero, suc, ◌+◌, ◌<◌, add-one, nat_eq, ◌==◌, ◌||◌, arith, Bool, List, get_or, drop-cons, length, [], ◌∷◌, ◌++◌, append_assoc, drop, map, Option, None, Some, option_map, slice_get}
-use Rattle.std.proofs.lemmas.Bool.Decides.{nat_tests}
+use Rattle.std.proofs.Common.{◌≡◌, refl, sym, ap, ◌∙◌, ℕ, zero, suc, ◌+◌, ◌<◌, add-one, Bool, List, get_or, drop-cons, length, [], ◌∷◌, ◌++◌, append_assoc, drop, map, Option, None, Some, option_map, slice_get}
 use Rattle.std.proofs.lemmas.List.{length-map}
 use Rattle.std.proofs.lemmas.List.FromFn.{length-map-range_with_len}
-use Rattle.std.specs.List.{range_with_len}
 use Rattle.lk_marks.specs.Marked.{marks_of}
 use Rattle.lk_model.specs.Numbered.{is_number_in}
 use Rattle.lk_model.specs.declared.records.InputRecord.{InputRecord}
@@ -14,7 +12,6 @@ use Rattle.lk_model.specs.declared.summaries.Winner.{Winner}
 use Rattle.lk_model.specs.RecordsOf.{name_row}
 use Rattle.lk_model.specs.declared.input_names.InputName.{InputName}
 use Rattle.lk_symtab.specs.NameRows.{NameRow, row_winner, symbols_in}
-use Rattle.lk_records.specs.AddedMarks.{is_added, marks_from}
 use Rattle.lk_records.specs.InputRecords.{record_with, records_with}
 use Rattle.lk_records.specs.NameRecords.{recorded_name}
 use Rattle.lk_records.specs.Occurrences.{name_path, occurrences_after}
@@ -29,19 +26,8 @@ occurrences_length earlier (path ∷ paths) = ap suc (occurrences_length (path �
 pub occurrences_as_many : (names : List InputName) (occurrences : List ℕ) → occurrences ≡ occurrences_after [] (map name_path names) → length occurrences ≡ length names
 occurrences_as_many names occurrences is = ap length is ∙ occurrences_length [] (map name_path names) ∙ length-map names name_path
 
-turned : (a b : ℕ) → nat_eq a b ≡ (b == a)
-turned a b = grind (arith, nat_tests)
-
-among : (added : List ℕ) (n : ℕ) → is_number_in added n ≡ is_added added n
-among [] n = refl
-among (m ∷ added) n = ap (λ b. b || is_number_in added n) (turned n m) ∙ ap (λ b. (m == n) || b) (among added n)
-
--- marks of the added inputs
-pub marks_are : (marks : List Bool) (added : List ℕ) (count : ℕ) → marks ≡ marks_of added count → marks ≡ marks_from added 0 count
-marks_are marks added count made = made ∙ (λ i. map (λ n. among added n i) (range_with_len 0 count))
-
-pub marks_as_many : (added : List ℕ) (names : List InputName) (marks : List Bool) → marks ≡ marks_from added 0 (length names) → length marks ≡ length names
-marks_as_many added names marks is = ap length is ∙ length-map-range_with_len (is_added added) 0 (length names)
+pub marks_as_many : (added : List ℕ) (names : List InputName) (marks : List Bool) → marks ≡ marks_of added (length names) → length marks ≡ length names
+marks_as_many added names marks is = ap length is ∙ length-map-range_with_len (is_number_in added) 0 (length names)
 
 next_input : (names : List InputName) (occurrences : List ℕ) (marks : List Bool) (rest : List InputSummary) (n occurrence : ℕ) (name : InputName) (mark : Bool) (summary : InputSummary)
     → n < length names → n < length occurrences → n < length marks → name ≡ get_or names n name → occurrence ≡ get_or occurrences n occurrence → mark ≡ get_or marks n mark

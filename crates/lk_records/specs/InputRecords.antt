@@ -1,4 +1,4 @@
--- This project's own: the records of inputs by what code holds of them.
+-- This project's own: the records of inputs, by the types of the code.
 use Rattle.std.specs.Prelude.{ℕ, Bool, List, [], ◌∷◌}
 use Rattle.lk_model.specs.declared.records.InputRecord.{InputRecord}
 use Rattle.lk_model.specs.declared.summaries.InputSummary.{InputSummary}

@@ -1,4 +1,4 @@
--- This project's own: the row that an image has for a name, as a table of names has it.
+-- This project's own: the row that an image records for a name, by the name's row in the symbol table.
 use Rattle.lk_model.specs.declared.records.NameRow.{NameRow as RecordedRow}
 use Rattle.lk_model.specs.RecordsOf.{name_row}
 use Rattle.lk_symtab.specs.NameRows.{NameRow, row_winner}

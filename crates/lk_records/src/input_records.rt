@@ -1,7 +1,7 @@
 //! The records of the inputs, those that were not added too.
 
 ghost use Rattle.std.specs.Prelude.{◌≡◌, [], length, map, IfOk};
-ghost use Rattle.lk_records.specs.AddedMarks.{marks_from};
+ghost use Rattle.lk_marks.specs.Marked.{marks_of};
 ghost use Rattle.lk_records.specs.InputRecords.{record_with, records_with};
 ghost use Rattle.lk_records.specs.Occurrences.{name_path, occurrences_after};
 
@@ -58,7 +58,6 @@ fn records_of(
 ///
 /// # Errors
 /// Out of memory alone.
-#[tactic(auto, using(crate::proofs::RecordsMade::marks_are))]
 pub fn input_records(
     alloc: Global,
     names: &[InputName],
@@ -66,7 +65,7 @@ pub fn input_records(
     added: &[u32],
 ) -> Result<InputRecordList, NoMemory>
     requires { length names.now ≡ length summaries }
-    ensures { IfOk result (λ rows. rows ≡ records_with names.now (occurrences_after [] (map name_path names.now)) (marks_from added.now 0 (length names.now)) summaries) }
+    ensures { IfOk result (λ rows. rows ≡ records_with names.now (occurrences_after [] (map name_path names.now)) (marks_of added.now (length names.now)) summaries) }
 {
     let occurrences = occurrences_of(alloc, names)?;
     let marks = Marks::of(alloc, names.len(), added)?;

@@ -1,5 +1,5 @@
--- A list whose items are in it once, put behind another, gives what the list gives that it was made of:
--- of slots and numbers, and of faults that are reported once per name.
+-- Appending a list of distinct items to another list, each item once, gives the same as appending the items that the
+-- list was made of. This holds of slots, of numbers, and of faults that are reported once per name.
 use Rattle.std.proofs.Common.{◌≡◌, refl, sym, ap, ◌∙◌, ℕ, nat_eq, ◌==◌, ◌&&◌, ◌||◌, Bool, true, false, cond, List, [], ◌∷◌, ◌++◌, fold, Option, Some, None}
 use Rattle.std.proofs.lemmas.List.Folds.{list_any-append}
 use Rattle.std.proofs.lemmas.List.Sums.{fold-append}
@@ -17,7 +17,7 @@ use Rattle.lk_model.specs.Numbered.{distinct, with_new}
 use Rattle.lk_model.specs.ScanFaults.{is_empty_copy_of, is_reported, is_undefined_of, reported_once, with_fault}
 use Rattle.lk_resolve.proofs.ListSets.{or_assoc, or_false, or_true}
 
--- two items that are the same are the same as the same items
+-- two equal items are equal to the same items
 abbrev Alike : {A : Type 0} → (A → A → Bool) → Type 0
 Alike {A} same = (x y z : A) → same x y ≡ true → same x z ≡ same y z
 
@@ -39,7 +39,7 @@ module _ {A : Type 0} (same : A → A → Bool) (alike : Alike same) where
   any-fold x seen (y ∷ ys) =
       any-fold x (with_new same seen y) ys ∙ ap (λ b. b || list_any (same x) ys) (any-new x y seen) ∙ or_assoc (list_any (same x) seen) (same x y) (list_any (same x) ys)
 
-  -- one more item, before and after its list was put behind another
+  -- one more item is added before a list is appended to another, or after it
   new-again : (seen more : List A) (x : A) → fold (with_new same) seen (with_new same more x) ≡ with_new same (fold (with_new same) seen more) x
   new-again seen more x = by (list_any (same x) more) refl
     where
@@ -83,7 +83,7 @@ slots_alike x y z e =
 pub slots-again : (seen xs : List GotKey) → fold (with_new got_key_eq) seen (distinct got_key_eq xs) ≡ fold (with_new got_key_eq) seen xs
 slots-again seen xs = once-again got_key_eq slots_alike seen xs
 
--- faults: by what a fault is reported once, where it is
+-- the kind and name by which a fault is reported once; none for a fault that is reported each time
 abbrev once_by : Fault → Option (Bool × List ℕ)
 once_by (fault.Undefined name site) = Some (true, name)
 once_by (fault.CopyOfZero name site) = Some (false, name)

@@ -18,14 +18,14 @@ use Rattle.lk_scan.specs.LinkScans.{input_references}
 use Rattle.lk_scan.specs.Scans.{references_in}
 use Rattle.lk_model.proofs.AddedOnce.{IsIn, is_numbered, times, times-append}
 
--- an added input with the signatures that were claimed before it
+-- an added input with the signatures that inputs before it claimed
 abbrev Claimed : Type 0
 Claimed = List (List ℕ) × Numbered
 
 abbrev left_of : Claimed → List KeptPiece
 left_of c = pieces_left c.0 c.1
 
--- whether this is the input with a number and leaves a section
+-- whether this is the input with a number, and it keeps a section
 abbrev own : ℕ → ℕ → Claimed → Bool
 own n s c = (c.1.number == n) && is_left c.0 c.1.summary s
 
@@ -44,7 +44,7 @@ or_shut false = refl
 same_number : (a b : ℕ) → (a == b) ≡ true → a ≡ b
 same_number a b e = grind (arith, nat_tests)
 
--- a section is among the pieces that an input leaves where it is one of them
+-- a section is among the kept pieces of an input exactly where it is a piece of this input and is kept
 pieces_any : (q : ℕ → Bool) (input n s : ℕ) (ps : List PieceInfo)
     → list_any (is_section_piece n s) (map (section_piece input) (filter (λ (p : PieceInfo). q p.section) ps)) ≡ ((input == n) && (list_any (λ (p : PieceInfo). p.section == s) ps && q s))
 pieces_any q input n s [] = sym (shut (input == n))
@@ -85,7 +85,7 @@ kept_any n s (c ∷ cs) =
     list_any-append (is_section_piece n s) (left_of c) (flat_map left_of cs)
     ∙ (λ i. left_any n s c i || kept_any n s cs i)
 
--- an input that is once among those that are added reports alone which of its sections are kept
+-- an input that is added once decides alone which of its sections are kept
 abbrev claims_number : ℕ → Claimed → Bool
 claims_number n c = c.1.number == n
 
@@ -121,7 +121,7 @@ module _ (found : Found) (inputs : List Input) (cs : List Claimed) (sections : f
       ∙ ap (list_any (own c.1.number s)) e
       ∙ own_alone s before c later (subst (λ (ds : List Claimed). times (claims_number c.1.number) ds ≤ 1) e (once c.1.number))
 
-  -- the references of the pieces that an input leaves
+  -- the references of the kept pieces of an input
   pieces_sited : (c : Claimed) (y : Input) → slice_get inputs c.1.number ≡ Some y → ((s : ℕ) → is_kept_in found c.1.number s ≡ is_left c.0 c.1.summary s) → (ps : List PieceInfo)
       → sited_of found.names inputs (map (section_piece c.1.number) (filter (λ (p : PieceInfo). is_left c.0 c.1.summary p.section) ps)) ≡ references_in found y.elf y.summary c.1.number ps
   pieces_sited c y e kept [] = refl
@@ -155,7 +155,7 @@ module _ (found : Found) (inputs : List Input) (cs : List Claimed) (sections : f
       flat_map-append (λ (k : KeptPiece). sited_at found.names inputs k.key k.piece) (left_of c) (flat_map left_of later)
       ∙ (λ i. input_sited before c later e h.0 i ++ all_sited (before ++ c ∷ []) later (e ∙ sym (append_assoc before (c ∷ []) later)) h.1 i)
 
--- the added inputs with what was claimed before them are the added inputs
+-- leaving out the claimed signatures gives the numbers of the added inputs
 claimed_numbers : (claimed : List (List ℕ)) (added : List Numbered) → map (λ (c : Claimed). c.1.number) (with_claims claimed added) ≡ numbers_in added
 claimed_numbers claimed [] = refl
 claimed_numbers claimed (x ∷ xs) = ap (λ (ns : List ℕ). x.number ∷ ns) (claimed_numbers (claimed ++ signatures_in x.summary) xs)

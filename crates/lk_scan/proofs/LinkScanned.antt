@@ -32,7 +32,7 @@ use Rattle.lk_scan.proofs.KeptByInput.{sited_by_input}
 use Rattle.lk_scan.proofs.NeedsJoined.{needs-again, needs_after}
 use Rattle.lk_model.specs.SectionKeys.{is_alloc}
 
--- a scan that goes on by the references of inputs
+-- a scan followed by the references of inputs
 module _ (found : Found) (inputs : List Input) where
   abbrev after : Scan → List Sited → Scan
   after s sited = record {
@@ -44,7 +44,7 @@ module _ (found : Found) (inputs : List Input) where
   after-nil : (s : Scan) → s ≡ after s []
   after-nil s = λ i. record { needs = s.needs; reported = s.reported; references = sym (append-nil s.references) i }
 
-  -- more references after others
+  -- the needs of two lists of references, one after the other, are those of both lists joined
   grown : {A B : Type 0} (step : List A → A → List A) (start : List A) (needs : B → List A) (xs ys : List B) → fold step (fold step start (flat_map needs xs)) (flat_map needs ys) ≡ fold step start (flat_map needs (xs ++ ys))
   grown step start needs xs ys = sym (fold-append step start (flat_map needs xs) (flat_map needs ys)) ∙ ap (fold step start) (sym (flat_map-append needs xs ys))
 
@@ -100,7 +100,7 @@ module _ (found : Found) (inputs : List Input) where
       rest : List Sited
       rest = flat_map (λ (q : PieceInfo). sited_in found.names x.elf x.summary q.key input q.section) ps
 
-  -- a scan that is joined goes on by its references
+  -- a scan joined with that of an input is the scan followed by the references of this input
   scan_joined : (s : Scan) (x : Input) (sited : List Sited) → faults_among found inputs sited ≡ faults_in found x.elf sited → joined s (scan_of found x.elf sited) ≡ after s sited
   scan_joined s x sited same = λ i. record {
     needs = needs-again found s.needs sited i;
@@ -125,7 +125,7 @@ module _ (found : Found) (inputs : List Input) where
       ∙ inputs_joined (after s (input_references found inputs n)) ns
       ∙ after-append s (input_references found inputs n) (flat_map (input_references found inputs) ns)
 
--- what the added inputs of a command decide
+-- what resolution finds of a command's added inputs
 abbrev found_for : OptionRecord → List Input → Found
 found_for options inputs = found_of (paths_of inputs) options.entry (added_inputs options.entry inputs)
 

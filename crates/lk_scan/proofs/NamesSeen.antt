@@ -1,4 +1,4 @@
--- What the table reports of a name by its number.
+-- The import and the target of a name, by its number in the symbol table.
 use Rattle.std.proofs.Common.{◌≡◌, refl, sym, ap, ◌∙◌, arith, ℕ, ◌+◌, ◌<◌, ◌≤◌, Bool, true, false, nat_lt, ltb-false, ltb-true, get_or, List, [], ◌∷◌, ◌++◌, length, map, Option, Some, None, option_map, option_and_then, slice_get}
 use Rattle.std.proofs.lemmas.List.{length-map}
 use Rattle.std.proofs.lemmas.List.FromFn.{get_or-map-range_with_len, length-map-range_with_len, map-range_with_len_more}
@@ -15,7 +15,7 @@ use Rattle.lk_scan.specs.declared.targets.Way.TheVariants as way
 use Rattle.lk_scan.specs.ReferralFaults.{undefined_name_at}
 use Rattle.lk_scan.specs.Targets.{import_in, meanings_of, name_target, row_import, target_with, to_weak, unknown_target}
 
--- a name that is there
+-- the import of a name that is in the table
 pub import_reported : (rows : List NameRow) (n : ℕ) (cs : Contributions) (w : Winner) → option_map symbols_in (slice_get rows n) ≡ Some cs → option_map row_winner (slice_get rows n) ≡ Some w → import_symbol cs w ≡ import_in rows n
 import_reported rows n cs w = by (slice_get rows n)
   where
@@ -45,7 +45,7 @@ named_at rows n cs site = by (slice_get rows n)
         let same : row.contributions ≡ cs = cc in
         ap (λ (x : Contributions). fault.Undefined x.name site ∷ []) same
 
--- a name that is not
+-- a number past the table has no import
 pub no_import : (rows : List NameRow) (n : ℕ) → length rows ≤ n → import_in rows n ≡ None
 no_import rows n le = ap (option_and_then row_import) (slice_get_past rows n le)
 
@@ -55,7 +55,7 @@ no_target rows n weak le = ap (λ (o : Option NameRow). elim o [ None ↦ unknow
 pub unnamed : (rows : List NameRow) (n : ℕ) (site : Site) → length rows ≤ n → undefined_name_at rows (way.Name n false) site ≡ []
 unnamed rows n site le = ap (λ (o : Option NameRow). elim o [ None ↦ [] | Some row ↦ fault.Undefined row.contributions.name site ∷ [] ]) (slice_get_past rows n le)
 
--- what is found once for all objects
+-- the target of a name for weak references, made from that for references that are not weak
 to_weak_reported : (rows : List NameRow) (n : ℕ) (weak : Bool) → to_weak n weak (name_target rows n false) ≡ name_target rows n weak
 to_weak_reported rows n weak = by weak (slice_get rows n)
   where
@@ -82,7 +82,7 @@ meaning_absent rows targets n weak same past =
     let out : length rows ≤ n = omega arith in
     sym (no_target rows n weak out)
 
--- one more name
+-- the targets of the first names, with that of one more name
 pub one_more : (rows : List NameRow) (n : ℕ) (old new : List Target) (t : Target) → old ≡ map (λ k. name_target rows k false) (range_with_len 0 n) → new ≡ old ++ t ∷ [] → t ≡ name_target rows n false → new ≡ map (λ k. name_target rows k false) (range_with_len 0 (n + 1))
 one_more rows n old new t so_far pushed is =
     let place : 0 + n ≡ n = omega arith in

@@ -1,4 +1,4 @@
--- Faults that are reported once per name, and the names that they were reported of.
+-- Faults that are reported once per name, and the lists of names that were already reported.
 use Rattle.std.proofs.Common.{◌≡◌, refl, sym, ap, ◌∙◌, ℕ, Bool, true, false, cond, ◌||◌, if◌then◌else◌, List, [], ◌∷◌, ◌++◌, Option, Some, None, filter_map}
 use Rattle.std.proofs.lemmas.List.{append-nil}
 use Rattle.std.proofs.lemmas.List.Elements.{filter_map-append}
@@ -16,7 +16,7 @@ abbrev named : List ℕ → Option (List ℕ) → Bool
 named name None = false
 named name (Some other) = bytes_eq name other
 
--- which faults are about a name
+-- a fault reports a name as undefined exactly where this is its undefined name
 undefined_alike : (name : List ℕ) (f : Fault) → is_undefined_of name f ≡ named name (undefined_name f)
 undefined_alike name (fault.Missing a) = refl
 undefined_alike name (fault.Input a b) = refl
@@ -43,7 +43,7 @@ copied_alike name (fault.CopyOfZero other site) = nat_list_eq_equiv.symm other n
 copied_alike name (fault.ImportedTlsDirect a b) = refl
 copied_alike name (fault.Overflow a b c d e) = refl
 
--- a name is reported of exactly where it is among the names that are reported of
+-- a fault of this kind was reported for a name exactly where the name is in the list of reported names
 module _ (test : Fault → Bool) (of : Fault → Option (List ℕ)) (name : List ℕ) (alike : (f : Fault) → test f ≡ named name (of f)) where
   split : (o : Option (List ℕ)) (rest : List (List ℕ)) → (named name o || list_any (bytes_eq name) rest) ≡ list_any (bytes_eq name) (cons_option o rest)
   split None rest = refl
@@ -56,7 +56,7 @@ module _ (test : Fault → Bool) (of : Fault → Option (List ℕ)) (name : List
       ∙ ap (λ b. named name (of f) || b) (any_named fs)
       ∙ split (of f) (filter_map of fs)
 
--- the names with those of one fault more
+-- the list of reported names, with that of one more fault
 module _ (of : Fault → Option (List ℕ)) (names : List (List ℕ)) (faults : List Fault) (f : Fault) (listed : names ≡ filter_map of faults) where
   one_more : (o : Option (List ℕ)) → of f ≡ o → names ++ cons_option o [] ≡ filter_map of (faults ++ f ∷ [])
   one_more o e =
@@ -67,14 +67,14 @@ module _ (of : Fault → Option (List ℕ)) (names : List (List ℕ)) (faults : 
   no_more : of f ≡ None → names ≡ filter_map of (faults ++ f ∷ [])
   no_more e = sym (append-nil names) ∙ one_more None e
 
--- a fault that is reported of no name
+-- a fault that is neither of an undefined name nor of an empty copy adds no name to the lists
 pub index_stays : (faults new : List Fault) (undefined copies : List (List ℕ)) (f : Fault) → IsIndexed faults undefined copies → undefined_name f ≡ None → empty_copy_name f ≡ None → new ≡ faults ++ f ∷ [] → IsIndexed new undefined copies
 index_stays faults new undefined copies f h u c e = record {
   undefined_names = no_more undefined_name undefined faults f h.undefined_names u ∙ ap (filter_map undefined_name) (sym e);
   copied_names = no_more empty_copy_name copies faults f h.copied_names c ∙ ap (filter_map empty_copy_name) (sym e);
 }
 
--- an undefined name
+-- the fault of an undefined name
 module _ (faults : List Fault) (undefined copies : List (List ℕ)) (name : List ℕ) (site : Site) (h : IsIndexed faults undefined copies) where
   undefined_any : list_any (is_undefined_of name) faults ≡ list_any (bytes_eq name) undefined
   undefined_any = any_named (is_undefined_of name) undefined_name name (undefined_alike name) faults ∙ ap (list_any (bytes_eq name)) (sym h.undefined_names)

@@ -1,4 +1,4 @@
--- References that are noted one after another, piece by piece, are the model's.
+-- Noting references one after another, piece by piece, gives what lk_model finds of them.
 use Rattle.std.proofs.Common.{◌≡◌, refl, sym, ap, subst, ◌∙◌, ℕ, nat_eq, Bool, true, false, cond, List, [], ◌∷◌, ◌++◌, fold, map, flat_map, filter, get_or, Some, Result, Ok, Err}
 use Rattle.std.proofs.lemmas.List.{append_assoc, append-nil}
 use Rattle.std.proofs.lemmas.List.Sums.{fold-append}
@@ -33,7 +33,7 @@ use Rattle.lk_model.specs.SectionKeys.{is_alloc}
 use Rattle.lk_elf.specs.RelocationInfo.{r_type_of}
 use Rattle.lk_elf.specs.RelocationInfo.{r_symbol_of}
 
--- what is kept after references of the model
+-- a scan followed by references as lk_model has them
 abbrev after : Found → Elf → Scan → List Sited → Scan
 after f elf s sited = record {
   needs = needs_after f s.needs (loaded_references sited);
@@ -89,7 +89,7 @@ module _ (resolution : ResolutionValue) (found : Found) (elf : Elf) (summary : I
           append_assoc s.references (recorded_on (referral_of resolution elf summary input p.section rela)) (recorded_of (references_of rest))
           ∙ ap (λ l. s.references ++ l) (recorded_noted resolution found elf input kept p.section rela.r_offset (r_type_of rela) rela.r_addend T (recorded_of (references_of rest)))
 
-  -- those of a piece, and of pieces
+  -- the references of one piece, then those of several
   relas : (p : PieceInfo) (s : Scan) (rs : List Rela) (rest : List Sited) → after here elf (with_relas resolution elf summary input p s rs) rest ≡ after here elf s (map (sited p) rs ++ rest)
   relas p s [] rest = refl
   relas p s (r ∷ rs) rest =
@@ -119,7 +119,7 @@ module _ (resolution : ResolutionValue) (found : Found) (elf : Elf) (summary : I
       ended : (t : Scan) → t ≡ after here elf t []
       ended t = λ i. record { needs = t.needs; reported = t.reported; references = sym (append-nil t.references) i }
 
--- what is noted of all kept pieces is what the model says of the references
+-- what is noted of all kept pieces is what lk_model finds of their references
 abbrev pub IsNoted : ResolutionValue → Elf → ℕ → Found → Type 0
 IsNoted resolution elf input f =
     let refs = object_references f elf input in
@@ -165,7 +165,7 @@ scan_answers resolution found elf input scan result h e answers = by result answ
     by (Err (failure.Faults faults)) a = (a.0 ∙ reported, a.1)
     by (Err failure.NoMemory) a = a
 
--- an object that is looked at after others goes on by what it has
+-- the scan of an object, made after others, is joined to theirs
 abbrev pub JoinsObject : ResolutionValue → Elf → ℕ → Scan → Found → Type 0
 JoinsObject resolution elf input before f =
     with_pieces resolution elf (summary_in elf) input before (summary_in elf).pieces ≡ joined before (scan_of f elf (object_references f elf input))

@@ -1,5 +1,4 @@
--- References that are noted by what they go to are those of the model: their faults, what they need, and
--- what is recorded of them.
+-- References that are noted by their targets have the faults, the needs and the records that lk_model has of them.
 use Rattle.std.proofs.Common.{◌≡◌, refl, sym, ap, ◌∙◌, ℕ, ℤ, nat_eq, ◌==◌, ◌&&◌, not, Bool, true, false, cond, List, [], ◌∷◌, ◌++◌, fold, map, get_or, Option, Some, None, option_map, option_and_then, slice_get}
 use Rattle.std.proofs.lemmas.Option.{slice_get-map}
 use Rattle.std.specs.List.{cons_option}
@@ -32,7 +31,7 @@ use Rattle.lk_scan.specs.ReferralNeeds.{needs_of_some, needs_with, needs_with_sl
 use Rattle.lk_scan.specs.Targets.{import_in, import_seen, name_target, row_import, setting_of, target_at, target_with, unknown_target}
 use Rattle.lk_model.specs.SectionKeys.{is_alloc}
 
--- a choice inside a choice
+-- two nested choices in the other order
 swapped : (b : Bool) (o : Option Contributions) (h : Contributions → List Fault) → cond {A = List Fault} b (elim o [ None ↦ [] | Some cs ↦ h cs ]) [] ≡ elim o [ None ↦ [] | Some cs ↦ cond b (h cs) [] ]
 swapped true None h = refl
 swapped true (Some cs) h = refl
@@ -54,7 +53,7 @@ nested false b xs = refl
 abbrev paired : ℕ → Option Global → Option (ℕ × Global)
 paired n m = option_map (λ (g : Global). (n, g)) m
 
--- what is resolved, as part of what the added inputs decide
+-- what resolution finds, with the paths, names and winners of the code's `Resolution`
 abbrev pub resolution_in : ResolutionValue → Found → Found
 resolution_in resolution found = record found { paths = resolution.paths; names = all_symbols resolution.rows; winners = map row_winner resolution.rows }
 
@@ -68,14 +67,14 @@ module _ (resolution : ResolutionValue) (found : Found) (elf : Elf) (input : ℕ
   abbrev here : Found
   here = resolution_in resolution found
 
-  -- the symbols and the winner of a number
+  -- the symbols and the winner of the name with a number
   symbols_is : (n : ℕ) → option_map symbols_in (slice_get resolution.rows n) ≡ slice_get (map symbols_in resolution.rows) n
   symbols_is n = sym (slice_get-map symbols_in resolution.rows n)
 
   winner_is : (n : ℕ) → option_map row_winner (slice_get resolution.rows n) ≡ slice_get (map row_winner resolution.rows) n
   winner_is n = sym (slice_get-map row_winner resolution.rows n)
 
-  -- the import of a number
+  -- the import of the name with a number
   abbrev import_by : Option Contributions → Option Winner → Option Global
   import_by on ow = option_and_then (λ (cs : Contributions). option_and_then (import_symbol cs) ow) on
 
@@ -86,7 +85,7 @@ module _ (resolution : ResolutionValue) (found : Found) (elf : Elf) (input : ℕ
   import_is : (n : ℕ) → import_in resolution.rows n ≡ import_named here n
   import_is n = import_row (slice_get resolution.rows n) ∙ (λ i. import_by (symbols_is n i) (winner_is n i))
 
-  -- what a number means
+  -- a test of the symbols and the winner of the name with a number
   abbrev passes_by : Option Contributions → Option Winner → (Contributions → Winner → Bool) → Bool
   passes_by on ow passes = elim on [ None ↦ false | Some cs ↦ elim ow [ None ↦ false | Some w ↦ passes cs w ] ]
 
@@ -111,7 +110,7 @@ module _ (resolution : ResolutionValue) (found : Found) (elf : Elf) (input : ℕ
   target_is : (n : ℕ) (weak : Bool) → name_target resolution.rows n weak ≡ target_here n weak
   target_is n weak = target_row n weak (slice_get resolution.rows n) ∙ (λ i. target_by n weak (symbols_is n i) (winner_is n i))
 
-  -- the fault that names a name
+  -- the fault of an undefined name
   abbrev named_by : Site → Option Contributions → List Fault
   named_by site on = elim on [ None ↦ [] | Some cs ↦ fault.Undefined cs.name site ∷ [] ]
 
@@ -122,7 +121,7 @@ module _ (resolution : ResolutionValue) (found : Found) (elf : Elf) (input : ℕ
   named_is : (n : ℕ) (weak : Bool) (site : Site) → undefined_name_at resolution.rows (way.Name n weak) site ≡ named_by site (slice_get (map symbols_in resolution.rows) n)
   named_is n weak site = named_row site (slice_get resolution.rows n) ∙ ap (named_by site) (symbols_is n)
 
-  -- a relocation, by what it goes to and by what it goes through
+  -- a relocation by its target in the code, and by lk_model's reference
   module _ (section offset code : ℕ) (addend : ℤ) where
     abbrev referral : Target → Referral
     referral t = record { input = input; section = section; offset = offset; code = code; addend = addend; target = t }
@@ -162,7 +161,7 @@ module _ (resolution : ResolutionValue) (found : Found) (elf : Elf) (input : ℕ
         undefined : cond is_undefined (undefined_name_at resolution.rows (way.Name n weak) site) [] ≡ elim (contributions_in here n) [ None ↦ [] | Some cs ↦ cond is_undefined (fault.Undefined cs.name site ∷ []) [] ]
         undefined = ap (λ l. cond is_undefined l []) (named_is n weak site) ∙ swapped is_undefined (contributions_in here n) (λ (cs : Contributions). fault.Undefined cs.name site ∷ [])
 
-    -- what it needs
+    -- what the reference needs
     abbrev needs_for : Needs → Ref → Needs
     needs_for n x = record {
       got = fold (with_new got_key_eq) n.got (got_needs x);
@@ -207,7 +206,7 @@ module _ (resolution : ResolutionValue) (found : Found) (elf : Elf) (input : ℕ
         ∙ ap (λ (o : Option Import). needs_of_some (needs_with_slots n (referral (target_here k weak))) code o) (seen_twice k (import_named here k))
         ∙ needs_import (needs_with_slots n (referral (target_here k weak))) (option_map (λ (g : Global). (k, g)) (import_named here k))
 
-    -- what is recorded of it
+    -- what an image records of the reference
     pub recorded_noted : (T : Through) (rest : List Reference) → recorded_on (referral (target_at resolution elf input T)) ++ rest ≡ cons_option (recorded (ref T)) rest
     recorded_noted (Through.ByLocal s) rest = refl
     recorded_noted (Through.ByName n weak) rest = λ i. recorded_on (referral (target_is n weak i)) ++ rest

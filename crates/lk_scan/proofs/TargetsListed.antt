@@ -1,4 +1,4 @@
--- The list of what an object's symbols mean reports it of each by its number.
+-- The list of the targets of an object's symbols has the target of each symbol at its number.
 use Rattle.std.proofs.Common.{◌≡◌, ◌≢◌, refl, sym, ap, ◌∙◌, arith, ℕ, ◌+◌, ◌<◌, ◌≤◌, ◌==◌, max, Bool, true, false, cond, nat_lt, ltb-false, ltb-true, List, [], ◌∷◌, ◌++◌, find, fold, get_or, length, map, set, Option, Some, None}
 use Rattle.std.proofs.lemmas.Bool.Decides.{nat_tests}
 use Rattle.std.proofs.lemmas.Grind.{get_or-set_at}
@@ -16,7 +16,7 @@ use Rattle.lk_scan.specs.declared.targets.Target.{Target}
 use Rattle.lk_scan.specs.SymbolTargets.{count_for, global_target, targets_of, with_globals, with_number}
 use Rattle.lk_scan.specs.Targets.{local_target, symbol_target, target_at}
 
--- a count stays beyond what it was beyond
+-- the count of a list of symbols is at least the count that it begins with
 rises : (n : ℕ) (gs : List Global) → n ≤ fold with_number n gs
 rises n [] = omega arith
 rises n (g ∷ gs) = let more : max n (g.symbol + 1) ≤ fold with_number (max n (g.symbol + 1)) gs = rises (max n (g.symbol + 1)) gs in omega arith
@@ -31,19 +31,19 @@ module _ (resolution : ResolutionValue) (elf : Elf) (input : ℕ) where
   abbrev local_list : ℕ → List Target
   local_list n = map (local_target resolution elf input) (range_with_len 0 n)
 
-  -- one LOCAL symbol more
+  -- the targets of the first LOCAL symbols, with one more
   pub local_more : (n : ℕ) (old new : List Target) (t : Target) → old ≡ local_list n → new ≡ old ++ t ∷ [] → t ≡ local_target resolution elf input n → new ≡ local_list (n + 1)
   local_more n old new t so_far pushed is = pushed ∙ (λ i. so_far i ++ is i ∷ []) ∙ sym (map-range_with_len_more (local_target resolution elf input) 0 n n (omega arith))
 
-  -- what a symbol means where these are not LOCAL, and a list that reports it of every symbol: one past its end
-  -- is LOCAL
+  -- the target of a symbol where these are the symbols that are not LOCAL, and a list that has it for each number;
+  -- a number past the list is that of a LOCAL symbol
   abbrev among : List Global → ℕ → Target
   among gs s = elim (find (λ (g : Global). g.symbol == s) gs) [ None ↦ local_target resolution elf input s | Some g ↦ global_target resolution.rows g ]
 
   abbrev Reports : List Global → List Target → Type 0
   Reports gs ts = (s : ℕ) → get_or ts s (local_target resolution elf input s) ≡ among gs s
 
-  -- the LOCAL symbols
+  -- the list of LOCAL symbols has the target of each of them
   locals_reported : (n : ℕ) → Reports [] (local_list n)
   locals_reported n s = by (nat_lt s n) refl
     where
@@ -54,7 +54,7 @@ module _ (resolution : ResolutionValue) (elf : Elf) (input : ℕ) where
           let far : n ≤ s = ltb-false s n e in
           get_or_past (local_list n) s (local_target resolution elf input s) (omega arith)
 
-  -- and those that are not
+  -- putting the symbols that are not LOCAL into the list keeps its length
   length_kept : (gs : List Global) (ts : List Target) → length (with_globals resolution.rows gs ts) ≡ length ts
   length_kept [] ts = refl
   length_kept (g ∷ gs) ts = length-set (with_globals resolution.rows gs ts) g.symbol (global_target resolution.rows g) ∙ length_kept gs ts
@@ -78,7 +78,7 @@ module _ (resolution : ResolutionValue) (elf : Elf) (input : ℕ) where
       let size : length (local_list (count_for gs)) ≡ count_for gs = length-map-range_with_len (local_target resolution elf input) 0 (count_for gs) in
       reported_from 0 gs (local_list (count_for gs)) (omega arith) (locals_reported (count_for gs))
 
-  -- what is reported of a symbol is what it means
+  -- the target in the list is that of the symbol
   abbrev through : Option Global → ℕ → Through
   through o s = elim o [ None ↦ Through.ByLocal s | Some g ↦ Through.ByName (number_of_name (all_symbols resolution.rows) g.name) (g.binding == stb_weak) ]
 

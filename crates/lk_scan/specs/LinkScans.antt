@@ -15,7 +15,7 @@ use Rattle.lk_scan.specs.declared.noting.Scan.{Scan}
 use Rattle.lk_scan.specs.Noted.{nothing_noted}
 use Rattle.lk_scan.specs.Scans.{object_references, references_in}
 
--- what these references of a file need, the faults that they have, and what is recorded of them
+-- the scan of these references of a file: what they need, their faults, and what an image records of them
 abbrev pub scan_of : Found → Elf → List Sited → Scan
 scan_of found elf sited = record {
   needs = needs_of found sited;
@@ -23,7 +23,7 @@ scan_of found elf sited = record {
   references = recorded_of (references_of sited);
 }
 
--- the references of the kept pieces of the input with a number, and what a scan of them comes to
+-- the references of the kept pieces of the input with a number, and the scan of them
 abbrev pub input_references : Found → List Input → ℕ → List Sited
 input_references found inputs input = elim (slice_get inputs input) [ None ↦ [] | Some x ↦ references_in found x.elf x.summary input x.summary.pieces ]
 
@@ -39,7 +39,7 @@ needs_joined n later = record {
   copies = fold (with_new nat_eq) n.copies later.copies;
 }
 
--- a scan with that of later references: what both need is once, and so does a fault that is reported once
+-- a scan joined with that of later references: what both need is there once, and so is a fault that is reported once
 -- per name
 abbrev pub joined : Scan → Scan → Scan
 joined scan later = record {
@@ -58,16 +58,15 @@ ReferencesByInput = (options : OptionRecord) (inputs : List Input) →
     let r = resolve options inputs in
     sited_of r.names inputs r.kept ≡ flat_map (input_references (found_in r) inputs) r.added
 
--- the scans of the added inputs, in adding order, come to what the whole link needs, the faults that it
--- has, and what an image records of its references
+-- the scans of the added inputs, in adding order, joined, have what the whole link needs, its faults, and what an
+-- image records of its references
 abbrev pub ScansAreTheLinks : Type 0
 ScansAreTheLinks = (options : OptionRecord) (inputs : List Input) →
     let r = resolve options inputs in
     let whole : Scan = record { needs = r.needs; reported = scan_faults r; references = recorded_of r.references } in
     all_joined (map (input_scan (found_in r) inputs) r.added) ≡ whole
 
--- the scan of an input that is an object is that of its own references; of one that is shared there is
--- nothing to scan
+-- the scan of an input that is an object is that of the object's references; a shared input has an empty scan
 abbrev pub ObjectsAreScanned : Type 0
 ObjectsAreScanned = (found : Found) (inputs : List Input) (input : ℕ) (x : Input) → slice_get inputs input ≡ Some x → x.summary ≡ summary_in x.elf → input_scan found inputs input ≡ scan_of found x.elf (object_references found x.elf input)
 

@@ -15,11 +15,11 @@ use Rattle.lk_scan.specs.ReferralFaults.{faults_on}
 use Rattle.lk_scan.specs.ReferralNeeds.{needs_with, recorded_on}
 use Rattle.lk_scan.specs.Targets.{referral_of, setting_of}
 
--- no reference is looked at
+-- the scan of no reference
 abbrev pub nothing_noted : Scan
 nothing_noted = record { needs = record { got = []; plt = []; address = []; copies = [] }; reported = []; references = [] }
 
--- one more reference is looked at, in the file with this path
+-- a scan with one more reference, in the file with this path
 abbrev pub with_referral : List NameRow → List ℕ → Setting → Scan → Referral → Scan
 with_referral rows path setting scan r = record {
   needs = cond setting.is_loaded (needs_with scan.needs r) scan.needs;
@@ -27,11 +27,11 @@ with_referral rows path setting scan r = record {
   references = scan.references ++ recorded_on r;
 }
 
--- the relocations of a section are looked at
+-- a scan with the relocations of a section
 abbrev pub with_relas : ResolutionValue → Elf → InputSummary → ℕ → PieceInfo → Scan → List Rela → Scan
 with_relas resolution elf summary input p scan relas = fold (with_referral resolution.rows (get_or resolution.paths input []) (setting_of p.key)) scan (map (referral_of resolution elf summary input p.section) relas)
 
--- a piece is looked at, which is kept or not, and pieces are
+-- a scan with the references of a piece, where it is kept, and of several pieces
 abbrev pub with_piece : ResolutionValue → Elf → InputSummary → ℕ → Scan → PieceInfo → Scan
 with_piece resolution elf summary input scan p = cond (is_place_kept resolution.kept input p.section) (with_relas resolution elf summary input p scan (relocations_in elf p.section)) scan
 

@@ -39,7 +39,7 @@ undefined_on rows path r = cond r.target.is_undefined (undefined_name_at rows r.
 abbrev pub dropped_on : List ℕ → Setting → Referral → List Fault
 dropped_on path setting r = cond (setting.wants_sections && r.target.is_dropped) (fault.DroppedLocal (site_in path r) ∷ []) []
 
--- whether a type on what it goes to is one that the linker does not take
+-- whether the linker does not support a relocation of this type to this target
 abbrev pub is_refused : Bool → Target → ℕ → Bool
 is_refused loaded t code =
     not (is_some (relocation_type_of code))
@@ -64,11 +64,11 @@ of_import rows path r import =
 abbrev pub import_faults_on : List NameRow → List ℕ → Setting → Referral → List Fault
 import_faults_on rows path setting r = cond setting.is_loaded (elim r.target.import [ None ↦ [] | Some import ↦ of_import rows path r import ]) []
 
--- the faults of a reference, each kind once
+-- the faults of a reference, at most one of each kind
 abbrev pub faults_on : List NameRow → List ℕ → Setting → Referral → List Fault
 faults_on rows path setting r = undefined_on rows path r ++ dropped_on path setting r ++ unsupported_on path setting r ++ import_faults_on rows path setting r
 
--- the name that a fault reports of as undefined, and as that of an empty copy
+-- the name that a fault reports as undefined, and the name of an import of size 0 that it reports
 abbrev pub undefined_name : Fault → Option (List ℕ)
 undefined_name (fault.Undefined name site) = Some name
 undefined_name _ = None
@@ -77,7 +77,7 @@ abbrev pub empty_copy_name : Fault → Option (List ℕ)
 empty_copy_name (fault.CopyOfZero name site) = Some name
 empty_copy_name _ = None
 
--- the names of which faults say that they are undefined, and those of which faults say that their copies are empty
+-- `undefined` are the names that these faults report as undefined, `copies` those of imports of size 0
 pub record IsIndexed (faults : List Fault) (undefined copies : List (List ℕ)) : Type 0 where
   pub undefined_names : undefined ≡ filter_map undefined_name faults
   pub copied_names : copies ≡ filter_map empty_copy_name faults

@@ -21,7 +21,7 @@ abbrev pub key_of : Slot → GotKey
 key_of (slot.OfName number thread) = record { owner = owner.Global number; thread = thread }
 key_of (slot.OfLocal input symbol thread) = record { owner = owner.Local input symbol; thread = thread }
 
--- the slot of what a reference goes through
+-- the slot of the symbol that a reference names
 abbrev pub slot_of : ℕ → Bool → Way → Slot
 slot_of input thread (way.Name number weak) = slot.OfName number thread
 slot_of input thread (way.Local symbol) = slot.OfLocal input symbol thread
@@ -48,7 +48,7 @@ address_of code import = cond (is_addressed code import) (import.name ∷ []) []
 abbrev pub plt_of : ℕ → Import → List ℕ
 plt_of code import = cond (code == r_x86_64_plt32) (import.name ∷ []) [] ++ address_of code import
 
--- needs with those of a reference to an import
+-- needs with those of one more reference to an import
 abbrev pub needs_of_import : Needs → ℕ → Import → Needs
 needs_of_import n code import = record {
   got = n.got;
@@ -61,7 +61,7 @@ abbrev pub needs_of_some : Needs → ℕ → Option Import → Needs
 needs_of_some n code None = n
 needs_of_some n code (Some import) = needs_of_import n code import
 
--- needs with the slots of a reference, and with all that it needs
+-- needs with the slots of one more reference, and with all that it needs
 abbrev pub needs_with_slots : Needs → Referral → Needs
 needs_with_slots n r = record { got = fold (with_new got_key_eq) n.got (slots_on r); plt = n.plt; address = n.address; copies = n.copies }
 

@@ -1,4 +1,4 @@
--- This project's own: what a link answers where its references are not scanned.
+-- This project's own: the status of a link whose references have faults.
 use Rattle.lk_report.specs.declared.statuses.Status.{Status}
 use Rattle.lk_report.specs.declared.statuses.Status.TheVariants as status
 use Rattle.lk_scan.specs.declared.scans.ScanFailure.{ScanFailure}

@@ -1,5 +1,4 @@
--- This project's own: what the symbols of an object mean to its references, in a list by their numbers
--- (gABI "Symbol Table").
+-- This project's own: the targets of the symbols of an object, in a list by their numbers (gABI "Symbol Table").
 use Rattle.std.specs.Prelude.{ℕ, ◌+◌, ◌==◌, List, [], ◌∷◌, fold, map, max, set}
 use Rattle.std.specs.List.{range_with_len}
 use Rattle.lk_elf.specs.Numbers.{stb_weak}
@@ -12,22 +11,22 @@ use Rattle.lk_symtab.specs.NameRows.{NameRow, all_symbols}
 use Rattle.lk_scan.specs.declared.targets.Target.{Target}
 use Rattle.lk_scan.specs.Targets.{local_target, name_target}
 
--- what a symbol means that is not LOCAL
+-- the target of a symbol that is not LOCAL
 abbrev pub global_target : List NameRow → Global → Target
 global_target rows g = name_target rows (number_of_name (all_symbols rows) g.name) (g.binding == stb_weak)
 
--- how many numbers a list has that has this symbol's too, and one that has those of all of these
+-- a count that is also above the number of this symbol, and one above the numbers of all these symbols
 abbrev pub with_number : ℕ → Global → ℕ
 with_number count g = max count (g.symbol + 1)
 
 abbrev pub count_for : List Global → ℕ
 count_for globals = fold with_number 0 globals
 
--- a list in which these symbols have what they mean; a number that several have has that of the first
+-- targets with those of these symbols put in; where several have one number, that of the first counts
 abbrev pub with_globals : List NameRow → List Global → List Target → List Target
 with_globals rows [] targets = targets
 with_globals rows (g ∷ gs) targets = set (with_globals rows gs targets) g.symbol (global_target rows g)
 
--- the list of an object's symbols, up to the last that is not LOCAL
+-- the targets of an object's symbols, up to the last that is not LOCAL
 abbrev pub targets_of : ResolutionValue → Elf → InputSummary → ℕ → List Target
 targets_of resolution elf summary input = with_globals resolution.rows summary.globals (map (local_target resolution elf input) (range_with_len 0 (count_for summary.globals)))

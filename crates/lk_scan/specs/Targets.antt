@@ -1,4 +1,4 @@
--- This project's own: what a reference goes to, by the rows of the names and the kept sections alone.
+-- This project's own: the target of a reference, by the rows of the names and the kept sections alone.
 use Rattle.std.specs.Prelude.{ℕ, Bool, false, ◌&&◌, ◌||◌, not, List, length, map, Option, Some, None, option_map, option_and_then, slice_get}
 use Rattle.std.specs.List.{range_with_len}
 use Rattle.lk_elf.specs.declared.relocation.Rela.{Rela}
@@ -23,7 +23,7 @@ use Rattle.lk_model.specs.SectionKeys.{is_alloc}
 use Rattle.lk_elf.specs.RelocationInfo.{r_type_of}
 use Rattle.lk_elf.specs.RelocationInfo.{r_symbol_of}
 
--- the symbol in a shared input that the name of a number means, where it means an import
+-- the symbol in a shared input that the name with a number means, where it means an import
 abbrev pub row_import : NameRow → Option Global
 row_import row = import_symbol row.contributions (row_winner row)
 
@@ -34,7 +34,7 @@ import_in rows number = option_and_then row_import (slice_get rows number)
 abbrev pub import_seen : ℕ → Global → Import
 import_seen number g = record { name = number; code = g.code; size = g.size }
 
--- what a name means, that has no symbol, and one with these symbols and this winner
+-- the target of a name that has no symbol, and of one with these symbols and this winner
 abbrev pub unknown_target : ℕ → Bool → Target
 unknown_target number weak = record { way = way.Name number weak; is_undefined = false; is_dropped = false; is_tls = false; is_no_tls = false; import = None }
 
@@ -48,19 +48,19 @@ target_with number weak cs w = record {
   import = option_map (import_seen number) (import_symbol cs w);
 }
 
--- what the name of a number means
+-- the target of the name with a number
 abbrev pub name_target : List NameRow → ℕ → Bool → Target
 name_target rows number weak = elim (slice_get rows number) [ None ↦ unknown_target number weak | Some row ↦ target_with number weak row.contributions (row_winner row) ]
 
--- what the names mean, by their numbers, to references that are not weak; and what a name means to one that
--- is weak or not
+-- the targets of all names, by their numbers, for references that are not weak; and the target of a name for a
+-- reference that is weak or not
 abbrev pub meanings_of : List NameRow → List Target
 meanings_of rows = map (λ n. name_target rows n false) (range_with_len 0 (length rows))
 
 abbrev pub to_weak : ℕ → Bool → Target → Target
 to_weak number weak t = record t { way = way.Name number weak; is_undefined = not weak && t.is_undefined }
 
--- what a LOCAL symbol of this file means
+-- the target of a LOCAL symbol of this file
 abbrev pub local_target : ResolutionValue → Elf → ℕ → ℕ → Target
 local_target resolution elf input symbol = record {
   way = way.Local symbol;
@@ -71,12 +71,12 @@ local_target resolution elf input symbol = record {
   import = None;
 }
 
--- what a reference goes to
+-- the target of a reference
 abbrev pub target_at : ResolutionValue → Elf → ℕ → Through → Target
 target_at resolution elf input (Through.ByName number weak) = name_target resolution.rows number weak
 target_at resolution elf input (Through.ByLocal symbol) = local_target resolution elf input symbol
 
--- what a symbol of an object is to its relocations
+-- the target of the relocations that name a symbol of an object
 abbrev pub symbol_target : ResolutionValue → Elf → InputSummary → ℕ → ℕ → Target
 symbol_target resolution elf summary input symbol = target_at resolution elf input (through_of (all_symbols resolution.rows) summary symbol)
 
@@ -91,6 +91,6 @@ referral_of resolution elf summary input section rela = record {
   target = symbol_target resolution elf summary input (r_symbol_of rela);
 }
 
--- what an output section says of references in it
+-- whether an output section is loaded, and whether references in it want their sections to be kept
 abbrev pub setting_of : SectionKey → Setting
 setting_of key = record { is_loaded = is_alloc key.class; wants_sections = needs_local_sections key }

@@ -47,7 +47,7 @@ is_in (m ∷ before) n after = by (nat_eq n m) (is_in before n after)
 bytes_of : Input → List ℕ
 bytes_of x = x.elf.bytes
 
--- of an added input the object that was read of its file
+-- the object of an added input has the bytes of its file
 object_of-added : (k : ℕ) (added : List ℕ) (xs : List Input) (n : ℕ) → is_number_in added (k + n) ≡ true
     → object_in (objects_from k added (files_of xs)) n ≡ option_map bytes_of (slice_get xs n)
 unfolding bytes_of
@@ -72,7 +72,7 @@ module _ (found : Found) (added : List ℕ) (xs : List Input) (sound : AreObject
   objects : List (Option (List ℕ))
   objects = objects_of added (files_of xs)
 
-  -- what a scan of its object comes to is what one of the input does
+  -- scanning the object of an added input joins the scan of this input, as lk_model has it
   input_scanned : (s : Scan) (n : ℕ) → is_number_in added n ≡ true → scan_with found objects s n ≡ joined s (input_scan found xs n)
   unfolding objects bytes_of summary_in
   input_scanned s n h =
@@ -95,7 +95,7 @@ module _ (found : Found) (added : List ℕ) (xs : List Input) (sound : AreObject
       ap (λ (t : Scan). fold (scan_with found objects) t ns) (input_scanned s n (ap (λ (l : List ℕ). is_number_in l n) e ∙ is_in before n ns))
       ∙ inputs_scanned (joined s (input_scan found xs n)) (before ++ n ∷ []) ns (e ∙ sym (append_assoc before (n ∷ []) ns))
 
--- one more of the added inputs, which are scanned one after another
+-- one more added input is scanned after the others
 pub next_scanned : (found : Found) (objects : List (Option (List ℕ))) (numbers items : List ℕ) (i d : ℕ) (scan new : Option Scan) (whole : Scan) → items ≡ numbers → i < length items
     → option_map (λ s. fold (scan_with found objects) s (drop i numbers)) scan ≡ Some whole
     → ((before : Scan) → scan ≡ Some before → new ≡ Some (scan_with found objects before (get_or items i d)))

@@ -51,7 +51,7 @@ file_sound items rest file left none = (first_sound file rest (ap (λ (fs : List
 pub rest_sound : (items rest : List InputFile) (file : InputFile) → items ≡ file ∷ rest → filter_map fault_in items ≡ [] → filter_map fault_in rest ≡ []
 rest_sound items rest file left none = (first_sound file rest (ap (λ (fs : List InputFile). filter_map fault_in fs) (sym left) ∙ none)).1
 
--- there is a summary for it
+-- each file that is left has a summary at its number
 pub summary_there : (summaries : List InputSummary) (i : ℕ) (items rest : List InputFile) (file : InputFile) → items ≡ file ∷ rest → drop i summaries ≡ map summary_of items → i < length summaries
 summary_there summaries i items rest file left kept =
     let size : length (drop i summaries) ≡ suc (length rest) =
@@ -70,7 +70,7 @@ summaries_split summaries i d items rest file left kept =
     both_parts (get_or summaries i d) (summary_of file) (drop (i + 1) summaries) (map summary_of rest)
     (sym (drop_more summaries i d (summary_there summaries i items rest file left kept)) ∙ kept ∙ ap (λ (fs : List InputFile). map summary_of fs) left)
 
--- the summary at its number is its own, and those after are those of the files after it
+-- the summary at a file's number is that of the file, and those after it are those of the later files
 pub summary_here : (summaries : List InputSummary) (i : ℕ) (d : InputSummary) (items rest : List InputFile) (file : InputFile) → items ≡ file ∷ rest → drop i summaries ≡ map summary_of items → get_or summaries i d ≡ summary_of file
 summary_here summaries i d items rest file left kept = (summaries_split summaries i d items rest file left kept).0
 

@@ -6,6 +6,6 @@ use Rattle.lk_model.specs.Inputs.{inputs_of}
 use Rattle.lk_inputs.specs.Refusals.{inputs_refusal}
 use Rattle.lk_scan_inputs.specs.Objects.{AreObjects}
 
--- those of a command are, where they are not refused
+-- the inputs of a command are objects without a fault, where they are not refused
 abbrev pub UnrefusedAreObjects : Type 0
 UnrefusedAreObjects = (command : Command) (there : FileMap) → inputs_refusal command there ≡ None → AreObjects (inputs_of command there)

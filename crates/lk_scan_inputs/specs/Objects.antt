@@ -16,7 +16,7 @@ pub record IsObject (x : Input) : Type 0 where
   pub summary : x.summary ≡ summary_in x.elf
   pub no_fault : object_fault x.elf.bytes ≡ None
 
--- all inputs are such ones
+-- all inputs are objects without a fault
 abbrev pub AreObjects : List Input → Type 0
 AreObjects xs = AllByRecursion IsObject xs
 
@@ -35,17 +35,17 @@ objects_from n added (file ∷ files) = cond (is_number_in added n) (Some file.b
 abbrev pub objects_of : List ℕ → List InputFile → List (Option (List ℕ))
 objects_of added files = objects_from 0 added files
 
--- what is known of the inputs of files
+-- the names of the inputs of files
 abbrev pub input_name : InputFile → InputName
 input_name file = file.name
 
 abbrev pub input_names : List InputFile → List InputName
 input_names files = map input_name files
 
--- what is kept of these inputs, with one more of them
+-- the names and objects of inputs, with one more input; it has its object where it is added
 abbrev pub with_input : LinkObjects → Bool → InputFile → LinkObjects
 with_input read mark file = record { names = read.names ++ file.name ∷ []; objects = read.objects ++ cond mark (Some file.bytes) None ∷ [] }
 
--- what is kept of the inputs of files: what is known of each, and these objects
+-- the names of the inputs of files, and these objects
 abbrev pub HasObjects : List (Option (List ℕ)) → List InputFile → LinkObjects → Type 0
 HasObjects objects files read = (read.names ≡ input_names files) × (read.objects ≡ objects)

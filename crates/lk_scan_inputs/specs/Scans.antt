@@ -1,4 +1,4 @@
--- This project's own: what the scan of the objects of a link answers.
+-- This project's own: the answer of the scan of a link's inputs.
 use Rattle.std.specs.Prelude.{◌≡◌, ℕ, ◌<◌, List, [], fold, length, Option, Some, None, option_and_then, Result, Ok, Err, slice_get}
 use Rattle.lk_model.specs.Elf.{elf_of}
 use Rattle.lk_model.specs.Finding.{Found}
@@ -19,14 +19,14 @@ use Rattle.lk_scan_inputs.specs.Objects.{input_names, objects_of}
 abbrev pub object_in : List (Option (List ℕ)) → ℕ → Option (List ℕ)
 object_in objects input = option_and_then (λ (o : Option (List ℕ)). o) (slice_get objects input)
 
--- one more input is scanned, where it has an object
+-- a scan with that of one more input, where it has an object
 abbrev pub scan_with : Found → List (Option (List ℕ)) → Scan → ℕ → Scan
 scan_with found objects before input = elim (object_in objects input) [
   | None ↦ before
   | Some bytes ↦ joined before (scan_of found (elf_of bytes) (object_references found (elf_of bytes) input))
 ]
 
--- the scans of these inputs, one after another
+-- the joined scans of these inputs, in their order
 abbrev pub scans_of : Found → List (Option (List ℕ)) → List ℕ → Scan
 scans_of found objects numbers = fold (scan_with found objects) nothing_noted numbers
 

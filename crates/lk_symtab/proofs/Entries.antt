@@ -1,5 +1,5 @@
--- The entries of the map as rows: an entry under a name that is there or new gives the rows with one more
--- symbol, and each name is beside its own row.
+-- The entries of the map as rows: a symbol under a name that the map has, or under a new one, gives the rows with one
+-- more symbol, and each name is beside its own row.
 use Rattle.std.proofs.Common.{◌≡◌, refl, sym, ap, ◌∙◌, arith, ℕ, zero, suc, ◌+◌, ◌-◌, ◌<◌, ◌^◌, Bool, true, false, cond, List, [], ◌∷◌, ◌++◌, length, Option, None, Some, is_some, Result, Ok, Err, IsErr, not, nat_lt, position, slice_get, length-append}
 use Rattle.std.specs.List.{position_or_len}
 use Rattle.std.specs.Cmp.Lexicographic.{nat_list_eq_equiv}
@@ -33,7 +33,7 @@ there e es name r c false named t head h rest =
     let more = rest refl in
     record { rows = ap (λ l. e.1 ∷ l) more.rows ∙ sym (ap (λ b. cond b (row_with e.1 c ∷ values_of es) (e.1 ∷ with_symbol (values_of es) name c)) t); named = (λ i. head i ∷ more.named i) }
 
--- a symbol of a name that is there
+-- a symbol of a name that the map has
 grows-there : (es : List (List ℕ × NameRow)) (name : List ℕ) (r : NameRow) (c : Contribution) → keys_of es ≡ row_names (values_of es) → lookup (bytes_eq name) es ≡ Some r
     → Grows es name c (insert_entry bytes_eq es name (row_with r c))
 grows-there [] name r c named h = absurd (cc)
@@ -43,7 +43,7 @@ grows-there (e ∷ es) name r c named h =
     let test : bytes_eq name e.0 ≡ bytes_eq name e.1.contributions.name = ap (bytes_eq name) head in
     there e es name r c (bytes_eq name e.0) named (sym test) head h (λ f. grows-there es name r c tail (ap (λ b. cond b (Some e.1) (lookup (bytes_eq name) es)) (sym f) ∙ h))
 
--- a symbol of a name that is new
+-- a symbol of a name that the map does not have
 last : (e : List ℕ × NameRow) (es new : List (List ℕ × NameRow)) (name : List ℕ) (c : Contribution) (b : Bool) → bytes_eq name e.1.contributions.name ≡ b → e.0 ≡ e.1.contributions.name
     → cond b (Some e.1) (lookup (bytes_eq name) es) ≡ None → (b ≡ false → Grows es name c new) → Grows (e ∷ es) name c (e ∷ new)
 last e es new name c true t head h rest = absurd (cc)

@@ -1,4 +1,4 @@
--- The rows of all symbols are the model's names: one more symbol is found again among them.
+-- The rows of all symbols are lk_model's names, also after one more symbol.
 use Rattle.std.proofs.Common.{◌≡◌, refl, sym, ap, ◌∙◌, ℕ, Bool, true, false, cond, ◌||◌, List, [], ◌∷◌, ◌++◌, map, filter, fold}
 use Rattle.std.specs.Cmp.Lexicographic.{nat_list_eq_equiv}
 use Rattle.std.specs.List.{list_any, AllByRecursion, IsDistinct}
@@ -54,7 +54,7 @@ apart : (x n : List ℕ) (ns : List (List ℕ)) → bytes_eq x n ≡ true → Al
 apart x n [] same h = tt
 apart x n (m ∷ ns) same h = (nat_list_eq_equiv.congr x n m same ∙ h.0, apart x n ns same h.1)
 
--- one more symbol of a name that is there
+-- one more symbol of a name that has symbols
 there : (xs : List Contribution) (c : Contribution) (ns : List (List ℕ)) → IsDistinct bytes_eq ns → list_any (bytes_eq c.global.name) ns ≡ true → list_with (map (contributions_to xs) ns) c.global.name c ≡ map (contributions_to (xs ++ c ∷ [])) ns
 unfolding IsDistinct
 there xs c [] distinct h = absurd (cc)
@@ -65,7 +65,7 @@ there xs c (n ∷ ns) distinct h = by (bytes_eq c.global.name n) refl h (there x
     by true is any rest = λ i. sym (to_own xs c n is) i ∷ sym (others xs c ns (apart c.global.name n ns is distinct.0)) i
     by false is any rest = λ i. sym (to_other xs c n is) i ∷ rest any i
 
--- one more symbol of a name that is new
+-- one more symbol of a new name
 last : (xs : List Contribution) (c : Contribution) (ns : List (List ℕ)) → filter (is_named c.global.name) xs ≡ [] → list_any (bytes_eq c.global.name) ns ≡ false → list_with (map (contributions_to xs) ns) c.global.name c ≡ map (contributions_to (xs ++ c ∷ [])) (ns ++ c.global.name ∷ [])
 last xs c [] none h =
     ap (λ (l : List Contribution). with_last (record { name = c.global.name; list = l }) c ∷ []) (sym none)
@@ -138,7 +138,7 @@ none_distinct = tt
 names_distinct : (xs : List Contribution) → IsDistinct bytes_eq (names_in_order xs)
 names_distinct xs = distinct_fold [] (map (λ (c : Contribution). c.global.name) xs) none_distinct
 
--- the model's names with one more symbol
+-- lk_model's names with one more symbol
 one_more : (xs : List Contribution) (c : Contribution) → list_with (contributions_of xs) c.global.name c ≡ contributions_of (xs ++ c ∷ [])
 one_more xs c = by (list_any (bytes_eq c.global.name) (names_in_order xs)) refl ∙ ap (map (contributions_to (xs ++ c ∷ []))) (sym (names_in_order-push xs c))
   where

@@ -1,5 +1,5 @@
--- This project's own: when the entries of a map from names to rows are a table: each name is beside its
--- own row, and the numbers of the rows have 32 bits.
+-- This project's own: the entries of a map from names to rows are a table where each name is beside its own row and
+-- the numbers of the rows have 32 bits.
 use Rattle.std.specs.Prelude.{◌≡◌, ℕ, ◌<◌, ◌^◌, List, length}
 use Rattle.std.specs.Map.{keys_of, values_of}
 use Rattle.lk_symtab.specs.NameRows.{NameRow, row_names}

@@ -1,5 +1,4 @@
--- What the rows have to do with lk_model's names, which are those of the list of all symbols, in order of
--- their first symbol.
+-- The rows and lk_model's names, which are those of the list of all symbols, in order of their first symbol.
 use Rattle.std.specs.Prelude.{◌≡◌, ℕ, Bool, true, false, cond, List, [], ◌∷◌, ◌++◌, map, fold, is_some, slice_get, slice_set, None, Some}
 use Rattle.std.specs.List.{list_any}
 use Rattle.lk_model.specs.declared.summaries.Contribution.{Contribution}
@@ -23,11 +22,11 @@ plain_row cs = record { contributions = cs; is_made = false }
 abbrev pub makes : List NameRow → List Bool
 makes rows = map (λ (row : NameRow). row.is_made) rows
 
--- the rows of all symbols are the model's names with their symbols
+-- the rows of all symbols are lk_model's names with their symbols
 abbrev pub TableIsTheModels : Type 0
 TableIsTheModels = (symbols : List Contribution) → rows_after symbols ≡ map plain_row (contributions_of symbols)
 
--- they stay so with one more symbol, whatever names the linker makes
+-- this also holds after one more symbol, whichever names the linker makes
 abbrev pub SymbolsGoOn : Type 0
 SymbolsGoOn = (rows : List NameRow) (symbols : List Contribution) (c : Contribution) → all_symbols rows ≡ contributions_of symbols → all_symbols (with_own rows c) ≡ contributions_of (symbols ++ c ∷ [])
 
@@ -35,7 +34,7 @@ SymbolsGoOn = (rows : List NameRow) (symbols : List Contribution) (c : Contribut
 abbrev pub FoundWhereAdded : Type 0
 FoundWhereAdded = (rows : List NameRow) (symbols : List Contribution) (name : List ℕ) → all_symbols rows ≡ contributions_of symbols → is_some (number_of rows name) ≡ list_any (is_named name) symbols
 
--- where a name has a number, the row with that number has all its symbols; where it has none, there are none
+-- the row with a name's number has all symbols of the name; a name without a number has no symbols
 abbrev pub SymbolsAtNumber : Type 0
 SymbolsAtNumber = (rows : List NameRow) (symbols : List Contribution) (name : List ℕ) (number : ℕ) → all_symbols rows ≡ contributions_of symbols → number_of rows name ≡ Some number → slice_get (all_symbols rows) number ≡ Some (contributions_to symbols name)
 
@@ -46,7 +45,7 @@ NoneWithoutNumber = (rows : List NameRow) (symbols : List Contribution) (name : 
 abbrev pub NumbersStay : Type 0
 NumbersStay = (rows : List NameRow) (name other : List ℕ) (c : Contribution) (number : ℕ) → number_of rows name ≡ Some number → number_of (with_symbol rows other c) name ≡ Some number
 
--- a symbol makes no name: that of a new row is not made
+-- adding a symbol makes no name: the linker does not make the name of a new row
 abbrev pub SymbolsMakeNone : Type 0
 SymbolsMakeNone = (rows : List NameRow) (name : List ℕ) (c : Contribution) → makes (with_symbol rows name c) ≡ cond (is_some (number_of rows name)) (makes rows) (makes rows ++ false ∷ [])
 

@@ -3,6 +3,6 @@ use Rattle.lk_model.specs.Texts.{with_text}
 use Rattle.lk_incr.specs.NotedTexts.{global_name}
 use Rattle.lk_incr.proofs.noting.note_globals.Given as goal
 
--- the names that are left make of the table what all make of it
+-- the table with the names that are left is the table with all names
 abbrev pub invariant-loop-global : goal.invariant-loop-global
 invariant-loop-global l = fold with_text l.table (map global_name (drop l.global-index l.globals)) ≡ fold with_text l.initial.table (map global_name l.globals)

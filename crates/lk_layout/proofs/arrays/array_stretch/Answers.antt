@@ -5,7 +5,7 @@ use Rattle.lk_layout.specs.declared.ranks.Ranked.{Ranked}
 use Rattle.lk_layout.proofs.RankedPieces.{array_reported}
 use Rattle.lk_layout.proofs.arrays.array_stretch.Goals as goal
 
--- the numbered pieces give those of the array
+-- the numbered pieces give the stretch of the array
 pub returns : goal.returns
 returns c =
     let sorted = subst (λ (rs : List Ranked). IsSortOf rank_in rs c.in_ok-sorted.sorted.items) c.as_slice.ensures.value c.in_ok-sorted.ensures in

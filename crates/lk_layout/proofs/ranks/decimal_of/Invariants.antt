@@ -2,7 +2,7 @@ use Rattle.std.proofs.Common.{◌≡◌, ◌≤◌, ◌-◌, ◌+◌, ◌*◌, �
 use Rattle.lk_model.specs.Rooms.{decimal_of}
 use Rattle.lk_layout.proofs.ranks.decimal_of.Given as goal
 
--- so many digits spell at most this
+-- a bound on the number by how many of its digits are still to be written
 pub record Small (n i : ℕ) : Type 0 where
   pub none : i ≤ 0 → n ≤ 0
   pub one : i ≤ 1 → n ≤ 207

@@ -1,4 +1,4 @@
--- The next symbol, where it is one of them, is after those before it.
+-- The next symbol is put after those before it, where it is not LOCAL and has a name.
 use Rattle.std.proofs.Common.{◌+◌, ◌<◌, arith, drop, length, option_to_list}
 use Rattle.std.proofs.lemmas.List.{append_assoc}
 use Rattle.lk_obj_parts.specs.ElfViews.{elf_from}

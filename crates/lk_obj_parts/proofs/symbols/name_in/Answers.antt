@@ -1,4 +1,4 @@
--- A name is the same under each header; one of zeros is as good as any.
+-- A name does not depend on the file header, so one of zeros serves.
 use Rattle.std.specs.Prelude.{[]}
 use Rattle.std.proofs.Common.{◌∙◌}
 use Rattle.lk_elf.specs.declared.file_header.Ehdr.{Ehdr}

@@ -3,7 +3,7 @@ use Rattle.std.specs.Vec.Iter.{into_iter_items}
 use Rattle.lk_records.specs.InputRecords.{records_with}
 use Rattle.lk_records.proofs.input_records.records_of.Given as goal
 
--- what was made and what is left to make are all records
+-- the records made so far, followed by those of the inputs that are left, are all records
 abbrev pub invariant-loop-n : goal.invariant-loop-n
 invariant-loop-n l = record {
   left : l.n-iterator.count + length (into_iter_items l.n-iterator.iter) ≡ length l.fn.summaries;
