@@ -1,4 +1,4 @@
--- This project's own: what a link answers where words give no command.
+-- This project's own: the status of a link whose words are no command.
 use Rattle.lk_report.specs.declared.statuses.Status.{Status}
 use Rattle.lk_report.specs.declared.statuses.Status.TheVariants as status
 use Rattle.lk_command.specs.declared.command_faults.CommandFault.{CommandFault}

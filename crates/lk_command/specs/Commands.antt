@@ -17,7 +17,7 @@ options_by reported phrases = record {
   dynamic = false;
 }
 
--- the command of values and of the phrases that gave them
+-- the command of phrases and of their values
 abbrev pub command_by : GivenValues → List Phrase → Command
 command_by reported phrases = record {
   output = reported.output;

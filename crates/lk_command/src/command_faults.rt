@@ -1,4 +1,4 @@
-//! Why words give no command.
+//! Why words are no command.
 
 use lk_report::{NoMemory, UsageFault};
 

@@ -1,4 +1,4 @@
-//! What a link answers where words give no command.
+//! The status of a link whose words are no command.
 
 ghost use Rattle.std.specs.Prelude.{◌≡◌};
 ghost use Rattle.lk_command.specs.CommandStatuses.{command_status};

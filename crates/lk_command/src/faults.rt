@@ -1,8 +1,8 @@
 //! The faults of a command's words (own). The first in the order of the words counts; after the last word
 //! comes a lib group that is not ended, and then that no input is named.
 //!
-//! What a phrase's faults ask of the phrases before it is the number of the lib group that is open and
-//! whether an output was named, so one pass with these two finds the first.
+//! A phrase's faults depend on two things of the phrases before it, the number of the lib group that is open and
+//! whether an output was named, so one pass with these two finds the first fault.
 
 ghost use Rattle.std.specs.Prelude.{◌≡◌, map, option_map, None, false};
 ghost use Rattle.std.specs.List.{list_any};

@@ -7,7 +7,7 @@
 //!
 //! `parse_words` answers by the definition `grammar` of lk_model (specs/Grammar.antt), as `ParseGives` of
 //! specs/Parsing.antt says. Callers rely on one law: a command or a fault that is answered is the
-//! grammar's. Out of memory alone is tied to no words. The time and the memory taken grow as the bytes of
+//! grammar's. Out of memory may come at any words. The time and the memory taken grow as the bytes of
 //! the words do: each text is copied once, into the command.
 //!
 //! The words are read as phrases (an option with its value is one), the faults are looked for, and then

@@ -14,7 +14,7 @@ pub record DeviceInMemory : Type 0 where
   pub written : List (ℕ × ℕ)
   pub calls : Calls
 
--- a device that is never reported to fail: its file, and the calls that found no memory
+-- a device that no test sets to fail: its file, and the calls that found no memory
 pub record SureDeviceInMemory : Type 0 where
   pub bytes : List ℕ
   pub written : List (ℕ × ℕ)
@@ -60,7 +60,7 @@ CutInMemory old n answer.Done new =
 CutInMemory old n answer.Failed new =
     FailsNext old.calls × (new ≡ record old { calls = call_failed old.calls })
 
--- the same calls of a device that is never reported to fail
+-- the same calls of a device that no test sets to fail
 abbrev pub SureLength : SureDeviceInMemory → LengthAnswer → SureDeviceInMemory → Type 0
 SureLength old (known.Known n) new = (new ≡ old) × (n ≡ length old.bytes)
 SureLength old known.Failed new = ⊥

@@ -11,7 +11,7 @@ pub record SinkInMemory : Type 0 where
   pub bytes : List ℕ
   pub calls : Calls
 
--- a sink that is never set to fail: the bytes, and the puts that found no memory
+-- a sink that no test sets to fail: the bytes, and the puts that found no memory
 pub record SureSinkInMemory : Type 0 where
   pub bytes : List ℕ
   pub faults : ℕ

@@ -1,11 +1,11 @@
-//! Where the image goes: the trait `Device`, which is taken for the one output file.
+//! The one output file of a link: the trait `Device`.
 
 ghost use Rattle.std.specs.Prelude.{length as list_length};
 ghost use Rattle.lk_outside.specs.Disk.{Disk, RangeLiesIn, IsAtMostEnd, LengthGives, ReadAtGives, WriteAtGives, CutGives, SyncGives};
 
 use lk_report::Answer;
 
-/// What a device answers to the question for its length.
+/// The answer of a device to the question for its length.
 #[derive(Clone, Copy, PartialEq, Eq, Debug)]
 pub enum LengthAnswer {
     /// The length in bytes; an absent file has length 0.

@@ -1,10 +1,10 @@
-//! Where the input files come from: the trait `Files` and its answers.
+//! The input files of a link: the trait `Files` and its answers.
 
 ghost use Rattle.lk_outside.specs.FilesState.{FilesState, StatGives, ReadGives};
 
 use lk_report::{Bytes, Name, Stamp};
 
-/// What a look-up of a path answers.
+/// The answer of a look-up of a path.
 #[derive(Clone, Copy, PartialEq, Eq, Debug)]
 pub enum StatAnswer {
     /// The file is there. Its stamp, where it has one.
@@ -17,7 +17,7 @@ pub enum StatAnswer {
     NoMemory,
 }
 
-/// What a read of a whole file answers.
+/// The answer of a read of a whole file.
 #[derive(Drop, Debug)]
 pub enum ReadAnswer {
     /// The file's bytes.

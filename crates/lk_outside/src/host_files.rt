@@ -13,8 +13,8 @@ use std::{fs, io, str};
 
 /// The files of the host. It reports nothing of them, and counts its failures and misses.
 ///
-/// Only a path at which no file is is Absent. A folder, a missing permission, a path with a
-/// part that is no folder and a path that is no UTF-8 text are failures.
+/// A path without a file is Absent. A folder, a missing permission, a path with a part that is no folder
+/// and a path that is no UTF-8 text are failures.
 #[derive(Drop, Debug)]
 pub struct HostFiles {
     rt: HostRuntime,

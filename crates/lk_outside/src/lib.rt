@@ -6,8 +6,8 @@
 //! `Spoken` for text.
 //!
 //! Callers rely on one law: a call answers Failed only where the object's count of faults rose in
-//! that call, and any other answer leaves the count as it was. So an answer that names a fault can
-//! be kept against a count.
+//! that call, and any other answer leaves the count as it was. So an answer that names a fault can be
+//! compared with a count.
 //!
 //! Objects in memory report their whole state, and can be set to fail at a call (the Sure ones fail
 //! by out of memory alone). The host's objects are a thin edge over std's files and standard output,

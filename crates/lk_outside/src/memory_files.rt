@@ -96,7 +96,7 @@ impl MemoryFiles {
     }
 }
 
-/// The file of this path, the first that is taken for it.
+/// The first file of this path.
 fn entry_of<'a>(entries: &'a [FileEntry], path: &Name) -> Option<&'a FileEntry>
     ensures { option_copied result ≡ entry_at path.now entries.now }
 {
