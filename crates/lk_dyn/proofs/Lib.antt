@@ -5,3 +5,4 @@ pub mod SymbolsNumbered
 pub mod RelocationsPut
 pub mod NamesLookedUp
 pub mod CallsAt
+pub mod StartFilled

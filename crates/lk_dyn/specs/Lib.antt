@@ -4,3 +4,4 @@ pub mod DynsymNumbers
 pub mod JumpSlots
 pub mod HashLookUps
 pub mod CallLaws
+pub mod StartRelocations

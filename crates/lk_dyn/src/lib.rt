@@ -11,6 +11,7 @@
 
 mod appending;
 mod calls;
+mod copy_addresses;
 mod dynsym_numbers;
 mod hash_tables;
 mod hashing;
@@ -19,6 +20,7 @@ mod laws;
 mod low_bits;
 mod relocations;
 mod sections;
+mod start_relocations;
 
 pub use calls::{got_plt_table, plt_table};
 pub use dynsym_numbers::DynsymNumbers;
@@ -27,3 +29,4 @@ pub use hashing::sysv_hash;
 pub use interpreters::interp_table;
 pub use laws::{entries_jump_by_their_slots, look_ups_find_each_name};
 pub use relocations::rela_plt_table;
+pub use start_relocations::rela_dyn_table;

@@ -27,7 +27,7 @@ const R_X86_64_JUMP_SLOT: u32 = 7;
 
 /// Puts a relocation of the word at an address, of this type, by the symbol of a dynamic name, with addend 0.
 /// The address is by its low bits.
-fn put_relocation(
+pub(crate) fn put_relocation(
     out: &mut Vec<u8>,
     numbers: &DynsymNumbers<'_>,
     address: u64,
