@@ -6,7 +6,8 @@
 
 Prints for each file its length, the time and the greatest memory of the run; then the time of the shared object in
 times of the object's, and its memory in bytes a symbol beyond the file's length and a run on an empty file. Ends with
-1 where the first is above 3 or the second is not below 160; with `--small` neither is looked at. Needs python3 alone.
+1 where the first is above 3 (the aim, which is not met yet: an object's names are neither kept nor hashed here) or the
+second is not below 160; with `--small` neither is looked at. Needs python3 alone.
 """
 import os, struct, sys, tempfile
 
