@@ -1,6 +1,6 @@
 -- The answers of the steps of an image are those of lk_model.
 use Rattle.std.proofs.Common.{◌≡◌, refl, sym, ap, subst, ◌∙◌}
-use Rattle.std.specs.Prelude.{ℕ, ◌^◌, ◌≤◌, Bool, List, length, map, replicate, Option, None, Result, Ok, Err}
+use Rattle.std.specs.Prelude.{ℕ, ◌^◌, ◌≤◌, Bool, List, length, replicate, Option, None, Result, Ok, Err}
 use Rattle.lk_report.specs.declared.causes.OptionRecord.{OptionRecord}
 use Rattle.lk_report.specs.declared.statuses.LimitKind.TheVariants as limit
 use Rattle.lk_report.specs.declared.statuses.Status.{Status}
@@ -26,11 +26,10 @@ use Rattle.lk_symbol_values.specs.SymbolNumbering.{ValueInputs}
 use Rattle.lk_headers.specs.Front.{FrontGives}
 use Rattle.lk_model.specs.declared.layouts.LayoutFault.{LayoutFault}
 use Rattle.lk_model.specs.LayoutStatuses.{layout_status}
-use Rattle.lk_model.specs.InputNames.{input_summary}
 use Rattle.lk_image.specs.ImageAnswers.{FillAnswers, FrontAnswers, ImageAnswers, IsRefusal, LengthAnswers, headers_limit, image_limit, length_limit}
 use Rattle.lk_image.specs.PlacedLinks.{IsFramed, IsPlacedLink}
-use Rattle.lk_image.specs.Tails.{described_of, placed_tail}
-use Rattle.lk_image.specs.declared.described.Described.{Described}
+use Rattle.lk_image.specs.Tails.{placed_tail, tail_of_link}
+use Rattle.lk_image.specs.declared.placed_tails.PlacedTail.{PlacedTail}
 use Rattle.lk_image.proofs.FrontReported.{front_reported, front_status}
 use Rattle.lk_image.proofs.Refusals.{first_refuses, none_of, short_enough, then_refuses}
 
@@ -85,10 +84,10 @@ unfolding stretches_of
 filled r place front new image done reported short h is =
     subst (λ (b : List ℕ). ImageAnswers r place (Ok b)) (sym is) (none_of (image_limit r place) (fault_status (overflow_faults r place)) (limits_kept r place front reported short) h.0, h.1)
 
--- ---- a link whose records are made, with the values of its symbols, its entry address and its stack
+-- ---- a link with the tail of its image, the values of its symbols, its entry address and its stack
 
 module _ (resolution : ResolutionValue) (summaries : List InputSummary) (objects : List (Option (List ℕ))) (options : OptionRecord) (xs : List Input) (place : Placement) (placed : IsPlacedLink resolution summaries objects options xs place)
-    (link : Described) (link_is : link ≡ described_of (resolve options xs) place) (known : ValueInputs) (known_is : known ≡ record { resolution = resolution; summaries = link.summaries; place = link.placement })
+    (tail : PlacedTail) (tail_is : tail ≡ tail_of_link (resolve options xs) place) (known : ValueInputs) (known_is : known ≡ record { resolution = resolution; summaries = summaries; place = place })
     (entry : ℕ) (entry_is : (needs : Needs) (o : OptionRecord) (ys : List Input) → IsGiven known.resolution known.summaries needs o ys → Lawful (resolve o ys) known.place → o.entry ≡ options.entry → entry ≡ low_64 (entry_value (resolve o ys) known.place))
     (stack : Bool) (stack_is : stack ≡ exec_stack_of (resolve options xs)) where
   abbrev r : Resolved
@@ -100,47 +99,35 @@ module _ (resolution : ResolutionValue) (summaries : List InputSummary) (objects
   abbrev given_inputs : ValueInputs
   given_inputs = record { resolution = resolution; summaries = summaries; place = place }
 
-  inputs_are : (resolve options xs).inputs ≡ xs
-  unfolding resolve
-  inputs_are = refl
-
-  same_inputs : known ≡ record { resolution = resolution; summaries = summaries; place = place }
-  same_inputs =
-      let summed : link.summaries ≡ summaries = ap (λ (d : Described). d.summaries) link_is ∙ ap (λ (ys : List Input). map input_summary ys) inputs_are ∙ placed.given.summarized in
-      let at : link.placement ≡ place = ap (λ (d : Described). d.placement) link_is in
-      known_is ∙ (λ i. record { resolution = resolution; summaries = summed i; place = at i })
-
   entry_here : entry ≡ low_64 (entry_value r place)
   entry_here =
       let T : ValueInputs → Type 0 = λ (k : ValueInputs). IsGiven k.resolution k.summaries placed.needs options xs → Lawful r k.place → entry ≡ low_64 (entry_value r k.place) in
-      subst T same_inputs (λ given lawful. entry_is placed.needs options xs given lawful refl) placed.given placed.lawful
+      subst T known_is (λ given lawful. entry_is placed.needs options xs given lawful refl) placed.given placed.lawful
 
-  front_here : (made : Result (List ℕ) LayoutFault) → FrontGives link.placement link.tail.rows entry stack made → FrontAnswers r place parts (front_status made)
+  front_here : (made : Result (List ℕ) LayoutFault) → FrontGives place tail.rows entry stack made → FrontAnswers r place parts (front_status made)
   front_here made gives =
-      front_reported r place parts link.tail.rows entry stack made
-      (subst (λ (p : Placement). FrontGives p link.tail.rows entry stack made) (ap (λ (d : Described). d.placement) link_is) gives)
-      (ap (λ (d : Described). d.tail.rows) link_is) entry_here stack_is
+      front_reported r place parts tail.rows entry stack made gives (ap (λ (t : PlacedTail). t.rows) tail_is) entry_here stack_is
 
-  length_here : link.tail.length ≡ image_length r place
-  length_here = ap (λ (d : Described). d.tail.length) link_is
+  length_here : tail.length ≡ image_length r place
+  length_here = ap (λ (t : PlacedTail). t.length) tail_is
 
   -- headers beyond the limit
-  pub headers_refused : (f : LayoutFault) (s : Status) (result : Result (List ℕ) Status) → FrontGives link.placement link.tail.rows entry stack (Err f) → result ≡ Err s → s ≡ layout_status f → ImageAnswers r place result
+  pub headers_refused : (f : LayoutFault) (s : Status) (result : Result (List ℕ) Status) → FrontGives place tail.rows entry stack (Err f) → result ≡ Err s → s ≡ layout_status f → ImageAnswers r place result
   headers_refused f s result gives is status_is =
       front_refused r place parts (layout_status f) result (front_here (Err f) gives) (is ∙ ap (λ t. Err t) status_is)
 
-  module _ (front : List ℕ) (made : FrontGives link.placement link.tail.rows entry stack (Ok front)) where
+  module _ (front : List ℕ) (made : FrontGives place tail.rows entry stack (Ok front)) where
     -- a length beyond the limit
-    pub long_refused : (s : Status) (result : Result (List ℕ) Status) → LengthAnswers link.tail.length (Err s) → result ≡ Err s → ImageAnswers r place result
-    long_refused s result h is = length_refused r place front link.tail.length s result (front_here (Ok front) made) length_here h is
+    pub long_refused : (s : Status) (result : Result (List ℕ) Status) → LengthAnswers tail.length (Err s) → result ≡ Err s → ImageAnswers r place result
+    long_refused s result h is = length_refused r place front tail.length s result (front_here (Ok front) made) length_here h is
 
-    module _ (few : link.tail.length ≤ 2 ^ 29) (shown : List ℕ) (same : shown ≡ front) (old new : List ℕ) (zeros : old ≡ replicate link.tail.length 0) where
+    module _ (few : tail.length ≤ 2 ^ 29) (shown : List ℕ) (same : shown ≡ front) (old new : List ℕ) (zeros : old ≡ replicate tail.length 0) where
       short : image_length r place ≤ 2 ^ 29
       short = subst (λ (n : ℕ). n ≤ 2 ^ 29) length_here few
 
       linked : IsLinked known objects r
       linked =
-          subst (λ (k : ValueInputs). IsLinked k objects r) (sym same_inputs)
+          subst (λ (k : ValueInputs). IsLinked k objects r) (sym known_is)
           (record {
             link = record { needs = placed.needs; options = options; inputs = xs; resolved = refl; given = placed.given; lawful = placed.lawful; within = placed.memory };
             objects_are = placed.objects_are;
@@ -148,7 +135,7 @@ module _ (resolution : ResolutionValue) (summaries : List InputSummary) (objects
 
       framed : IsFramed given_inputs objects r parts shown
       framed = record {
-        linked = subst (λ (k : ValueInputs). IsLinked k objects r) same_inputs linked;
+        linked = subst (λ (k : ValueInputs). IsLinked k objects r) known_is linked;
         layable = placed.layable (record { memory = placed.memory; headers = (front_here (Ok front) made).0 });
         tables = placed.tables;
         front_is = same ∙ (front_here (Ok front) made).1;
@@ -156,22 +143,22 @@ module _ (resolution : ResolutionValue) (summaries : List InputSummary) (objects
       }
 
       filled_here : (result : Result (Unit {0}) Status)
-          → ((q : Resolved) (ps : List Part) → link.tail ≡ placed_tail known.place ps → IsFramed known objects q ps shown → old ≡ replicate (length_with known.place ps) 0 → FillAnswers q known.place ps new result)
+          → ((q : Resolved) (ps : List Part) → tail ≡ placed_tail known.place ps → IsFramed known objects q ps shown → old ≡ replicate (length_with known.place ps) 0 → FillAnswers q known.place ps new result)
           → FillAnswers r place parts new result
       filled_here result answers =
-          let T : ValueInputs → Type 0 = λ (k : ValueInputs). link.tail ≡ placed_tail k.place parts → IsFramed k objects r parts shown → old ≡ replicate (length_with k.place parts) 0 → FillAnswers r k.place parts new result in
-          subst T same_inputs (answers r parts) (ap (λ (d : Described). d.tail) link_is) framed (zeros ∙ ap (λ (n : ℕ). replicate n 0) length_here)
+          let T : ValueInputs → Type 0 = λ (k : ValueInputs). tail ≡ placed_tail k.place parts → IsFramed k objects r parts shown → old ≡ replicate (length_with k.place parts) 0 → FillAnswers r k.place parts new result in
+          subst T known_is (answers r parts) tail_is framed (zeros ∙ ap (λ (n : ℕ). replicate n 0) length_here)
 
       -- values that do not fit
       pub overflows_refused : (s : Status) (result : Result (List ℕ) Status)
-          → ((q : Resolved) (ps : List Part) → link.tail ≡ placed_tail known.place ps → IsFramed known objects q ps shown → old ≡ replicate (length_with known.place ps) 0 → FillAnswers q known.place ps new (Err s))
+          → ((q : Resolved) (ps : List Part) → tail ≡ placed_tail known.place ps → IsFramed known objects q ps shown → old ≡ replicate (length_with known.place ps) 0 → FillAnswers q known.place ps new (Err s))
           → result ≡ Err s
           → ImageAnswers r place result
       overflows_refused s result answers is = fill_refused r place front new s result (front_here (Ok front) made) short (filled_here (Err s) answers) is
 
       -- the image
       pub image_reported : (image : List ℕ) (done : Unit {0})
-          → ((q : Resolved) (ps : List Part) → link.tail ≡ placed_tail known.place ps → IsFramed known objects q ps shown → old ≡ replicate (length_with known.place ps) 0 → FillAnswers q known.place ps new (Ok done))
+          → ((q : Resolved) (ps : List Part) → tail ≡ placed_tail known.place ps → IsFramed known objects q ps shown → old ≡ replicate (length_with known.place ps) 0 → FillAnswers q known.place ps new (Ok done))
           → image ≡ new
           → ImageAnswers r place (Ok image)
       image_reported image done answers is = filled r place front new image done (front_here (Ok front) made) short (filled_here (Ok done) answers) is

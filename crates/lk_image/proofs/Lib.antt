@@ -1,6 +1,5 @@
 pub mod Refusals
 pub mod TailsPlaced
-pub mod RecordsApart
 pub mod FrontReported
 pub mod BytesPut
 pub mod SectionsWritten

@@ -1,5 +1,5 @@
--- The tail of an image at its places (this project's own; gABI "Sections"), and a link whose records are made.
-use Rattle.std.specs.Prelude.{List, map}
+-- The tail of an image at its places (this project's own; gABI "Sections").
+use Rattle.std.specs.Prelude.{List}
 use Rattle.std.specs.List.{flat_map}
 use Rattle.lk_elf.specs.Records.{shdr_bytes}
 use Rattle.lk_model.specs.Answers.{length_with}
@@ -7,12 +7,8 @@ use Rattle.lk_model.specs.FullPlace.{tail_start}
 use Rattle.lk_model.specs.Tail.{Part, headers_offset, section_headers, tail_parts}
 use Rattle.lk_model.specs.Views.{Resolved}
 use Rattle.lk_model.specs.declared.layouts.Placement.{Placement}
-use Rattle.lk_model.specs.declared.records.InputRecord.{InputRecord}
-use Rattle.lk_model.specs.declared.summaries.InputSummary.{InputSummary}
-use Rattle.lk_model.specs.InputNames.{input_summary}
 use Rattle.lk_headers.specs.TailRows.{rows_of_parts}
 use Rattle.lk_image.specs.declared.placed_tails.PlacedTail.{PlacedTail}
-use Rattle.lk_image.specs.declared.described.Described.{Described}
 
 -- a tail with these parts
 abbrev pub placed_tail : Placement → List Part → PlacedTail
@@ -25,14 +21,6 @@ placed_tail place parts = record {
   length = length_with place parts;
 }
 
--- the summary of a recorded input
-abbrev pub recorded_summary : InputRecord → InputSummary
-recorded_summary x = x.summary
-
--- a link whose records are made
-abbrev pub described_of : Resolved → Placement → Described
-described_of r place = record {
-  summaries = map input_summary r.inputs;
-  placement = place;
-  tail = placed_tail place (tail_parts r place);
-}
+-- the tail of the image of a link at a placement
+abbrev pub tail_of_link : Resolved → Placement → PlacedTail
+tail_of_link r place = placed_tail place (tail_parts r place)

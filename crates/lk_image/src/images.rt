@@ -67,7 +67,7 @@ fn fill_image(
 /// the linked bytes of its pieces, the fill of its holes, the tail with the records of the link, section headers.
 ///
 /// `names` and `summaries` are those of each input by its number, `objects` has the object of each added one, and
-/// `references` are those that an image records. What is given by value is dropped with the records.
+/// `references` are those that an image records, which are dropped first: the record sections of today have none.
 ///
 /// # Errors
 /// `Limit` if the placement asks for more than 64 program headers, else if the image would be longer than 512 MiB,
@@ -85,22 +85,15 @@ pub fn link_image(
     requires { length names.now ≡ length summaries }
     ensures { (xs : List Input) → IsPlacedLink resolution.now summaries objects.now options.now xs placement → names.now ≡ map name_of xs → OccurrencesAreRight xs → references ≡ recorded_of (resolve options.now xs).references → ImageAnswers (resolve options.now xs) placement result }
 {
-    let stack = exec_stack(summaries.as_slice(), resolution);
-    let link = describe(
-        alloc, options, names, summaries, resolution, references, placement,
-    )?;
-    let values = Values::new(alloc, resolution, &link.summaries, &link.placement)?;
+    drop(references);
+    let read = summaries.as_slice();
+    let stack = exec_stack(read, resolution);
+    let tail = describe(alloc, options, names, read, resolution, &placement)?;
+    let values = Values::new(alloc, resolution, &summaries, &placement)?;
     let entry = values.entry(&options.entry);
-    let front = headers(alloc, &link.placement, &link.tail.rows, entry, stack)?;
-    check_length(link.tail.length)?;
-    let mut image = zeros(alloc, link.tail.length as usize)?;
-    fill_image(
-        alloc,
-        objects,
-        &values,
-        front.as_slice(),
-        &link.tail,
-        &mut image,
-    )?;
+    let front = headers(alloc, &placement, &tail.rows, entry, stack)?;
+    check_length(tail.length)?;
+    let mut image = zeros(alloc, tail.length as usize)?;
+    fill_image(alloc, objects, &values, front.as_slice(), &tail, &mut image)?;
     Ok(Bytes::from_vec(image))
 }

@@ -2,9 +2,13 @@
 //! the mixed one put together by hand from the layout of the sections.
 
 use crate::placements::{Row, SMALL_ROWS, placed};
-use lk_incr::{InputsAndTexts, TailPart, section_names, tail, write_inputs};
-use lk_model::layouts::{Class, PieceId, PieceRow, SectionKey};
-use lk_model::records::{InputRecord, InputRecordList, Records};
+use lk_incr::{
+    InputsAndTexts, RecordParts, RecordedInput, RecordedInputs, TailPart, section_names, tail,
+    write_inputs,
+};
+use lk_model::commands::Mark;
+use lk_model::input_names::InputName;
+use lk_model::layouts::{Class, PieceId, PieceRow, Placement, SectionKey};
 use lk_model::summaries::{
     Global as Symbol, GlobalList, Group, GroupList, Home, InputSummary, Kind, NumberList,
     PieceInfo, PieceInfoList,
@@ -213,25 +217,53 @@ fn summary(alloc: Global, input: &Input) -> Result<InputSummary, NoMemory> {
     })
 }
 
-fn record(alloc: Global, input: &Input) -> Result<InputRecord, NoMemory> {
+/// An input as it was read, and the numbers of its record.
+#[derive(Drop)]
+struct ReadInput {
+    name: InputName,
+    occurrence: u32,
+    added: bool,
+    summary: InputSummary,
+}
+
+fn read_input(alloc: Global, input: &Input) -> Result<ReadInput, NoMemory> {
     let path = Name::from_slice(alloc, input.path)?;
     let summary = summary(alloc, input)?;
-    Ok(InputRecord {
-        path,
+    Ok(ReadInput {
+        name: InputName {
+            path,
+            lib: input.lib,
+            mark: Mark::Unknown,
+            stamp: input.stamp,
+        },
         occurrence: input.occurrence,
-        lib: input.lib,
         added: input.added,
-        stamp: input.stamp,
         summary,
     })
 }
 
-fn inputs(alloc: Global, all: &[Input]) -> Result<InputRecordList, NoMemory> {
+fn read_inputs(alloc: Global, all: &[Input]) -> Result<List<ReadInput>, NoMemory> {
     let mut inputs = List::new(alloc);
     for input in all {
-        inputs.push(record(alloc, input)?)?;
+        inputs.push(read_input(alloc, input)?)?;
     }
     Ok(inputs)
+}
+
+fn recorded<'a>(
+    alloc: Global,
+    inputs: &'a List<ReadInput>,
+) -> Result<RecordedInputs<'a>, NoMemory> {
+    let mut records = List::new(alloc);
+    for input in inputs.as_slice() {
+        records.push(RecordedInput::of(
+            &input.name,
+            input.occurrence,
+            input.added,
+            &input.summary,
+        ))?;
+    }
+    Ok(records)
 }
 
 /// What a link is made of.
@@ -261,18 +293,35 @@ fn options(alloc: Global, link: &Link) -> Result<OptionRecord, NoMemory> {
     })
 }
 
-fn records(alloc: Global, link: &Link) -> Result<Records, NoMemory> {
+/// What the records of a link borrow.
+#[derive(Drop)]
+struct ReadLink {
+    options: OptionRecord,
+    inputs: List<ReadInput>,
+    placement: Placement,
+}
+
+fn read_link(alloc: Global, link: &Link) -> Result<ReadLink, NoMemory> {
     let options = options(alloc, link)?;
-    let inputs = inputs(alloc, link.inputs)?;
+    let inputs = read_inputs(alloc, link.inputs)?;
     let placement = placed(alloc, link.sections, link.pieces)?;
-    Ok(Records {
-        version: 1,
+    Ok(ReadLink {
         options,
         inputs,
-        names: List::new(alloc),
-        references: List::new(alloc),
         placement,
     })
+}
+
+/// The parts of the records of a link, of version 1.
+fn parts<'a>(alloc: Global, link: &'a ReadLink) -> Result<RecordParts<'a>, NoMemory> {
+    let inputs = recorded(alloc, &link.inputs)?;
+    Ok(RecordParts::of(
+        1,
+        &link.options,
+        link.options.dynamic,
+        inputs,
+        &link.placement,
+    ))
 }
 
 /// The row of section 1 of input 0 at the start of the code.
@@ -421,8 +470,9 @@ const MIXED: Link = Link {
 
 /// The record sections of a link.
 fn made(alloc: Global, link: &Link) -> Result<InputsAndTexts, NoMemory> {
-    let records = records(alloc, link)?;
-    write_inputs(alloc, &records)
+    let link = read_link(alloc, link)?;
+    let parts = parts(alloc, &link)?;
+    write_inputs(alloc, &parts)
 }
 
 #[test]
@@ -455,9 +505,10 @@ fn is_part(part: &TailPart, name: &[u8], bytes: &[u8]) -> bool {
 
 #[test]
 fn the_tail_has_its_parts_in_order(rt: HostRuntime) -> Result<(), NoMemory> {
-    let records = records(rt.alloc(), &SMALL)?;
-    let parts = tail(rt.alloc(), &records)?;
-    let parts = parts.as_slice();
+    let link = read_link(rt.alloc(), &SMALL)?;
+    let parts = parts(rt.alloc(), &link)?;
+    let tail = tail(rt.alloc(), &parts)?;
+    let parts = tail.as_slice();
     assert_eq!(rt; parts.len(), 3);
     assert!(rt; is_part(&parts[0], b".gnu_incremental_inputs", &SMALL_INPUTS));
     assert!(rt; is_part(&parts[1], b".gnu_incremental_strtab", &SMALL_TEXTS));

@@ -5,27 +5,28 @@ ghost use Rattle.lk_model.specs.InputsSection.{bit, head_fields, option_flags, s
 ghost use Rattle.lk_model.specs.RecordFields.{spelled};
 ghost use Rattle.lk_model.specs.SectionKeys.{class_number};
 ghost use Rattle.lk_model.specs.Texts.{offset_in};
+ghost use Rattle.lk_incr.specs.RecordParts.{nameless};
 ghost use Rattle.lk_incr.specs.Words.{words_of};
 
+use crate::record_parts::RecordParts;
 use crate::words::{Word, long, pair, put_words};
 use lk_model::classes::class_number;
 use lk_model::layouts::SectionRow;
-use lk_model::records::Records;
 use lk_report::{NoMemory, OptionRecord};
 use lk_string_table::StringTable;
 
 /// The head, 32 bytes: the version, the options, and how many inputs and output sections follow.
-fn head_words(table: &StringTable<'_>, records: &Records) -> [Word; 4]
-    ensures { result ≡ words_of (offset_in table.now) (head_fields records.now) }
+fn head_words(table: &StringTable<'_>, parts: &RecordParts<'_>) -> [Word; 4]
+    ensures { result ≡ words_of (offset_in table.now) (head_fields (nameless parts.now)) }
 {
-    let options = &records.options;
+    let options = parts.options;
     let entry = table.offset(options.entry.as_slice());
     let interp = table.offset(options.interp.as_slice());
     let runpath = table.offset(options.runpath.as_slice());
-    let inputs = records.inputs.as_slice().len() as u64;
-    let sections = records.placement.sections.as_slice().len() as u64;
+    let inputs = parts.inputs.as_slice().len() as u64;
+    let sections = parts.placement.sections.as_slice().len() as u64;
     [
-        pair(records.version as u64, option_flags(options)),
+        pair(parts.version as u64, option_flags(options, parts.dynamic)),
         pair(entry, interp),
         pair(runpath, options.patch as u64),
         pair(inputs, sections),
@@ -36,11 +37,11 @@ fn head_words(table: &StringTable<'_>, records: &Records) -> [Word; 4]
 pub(crate) fn put_head(
     out: &mut Vec<u8>,
     table: &StringTable<'_>,
-    records: &Records,
+    parts: &RecordParts<'_>,
 ) -> Result<(), NoMemory>
-    ensures { OnOk result (out.new.items ≡ out.old.items ++ spelled (offset_in table.now) (head_fields records.now)) }
+    ensures { OnOk result (out.new.items ≡ out.old.items ++ spelled (offset_in table.now) (head_fields (nameless parts.now))) }
 {
-    put_words(out, &head_words(table, records))?;
+    put_words(out, &head_words(table, parts))?;
     Ok(())
 }
 
@@ -72,11 +73,11 @@ pub(crate) fn put_section(
     Ok(())
 }
 
-/// The options as flags: 1 for a dynamic link, 2 where every definition is exported.
-fn option_flags(options: &OptionRecord) -> u64
-    ensures { result ≡ option_flags options.now }
+/// The options of a link as flags: 1 where it is dynamic, 2 where every definition is exported.
+fn option_flags(options: &OptionRecord, dynamic: bool) -> u64
+    ensures { result ≡ option_flags (record options.now { dynamic = dynamic }) }
 {
-    bit(options.dynamic) + 2 * bit(options.export_dynamic)
+    bit(dynamic) + 2 * bit(options.export_dynamic)
 }
 
 /// 1 for true, 0 for false.

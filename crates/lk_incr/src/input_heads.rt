@@ -8,28 +8,29 @@ ghost use Rattle.lk_model.specs.Texts.{offset_in};
 ghost use Rattle.lk_incr.specs.Words.{words_of};
 
 use crate::heads::bit;
+use crate::record_parts::RecordedInput;
 use crate::words::{Word, long, pair, put_words};
-use lk_model::records::InputRecord;
 use lk_model::summaries::Kind;
 use lk_report::{NoMemory, Stamp};
 use lk_string_table::StringTable;
 
 /// The head of an input, 56 bytes: what it is, its stamp, and how many pieces, symbols and groups follow.
-fn input_words(table: &StringTable<'_>, input: &InputRecord) -> [Word; 7]
+fn input_words(table: &StringTable<'_>, input: &RecordedInput<'_>) -> [Word; 7]
     ensures { result ≡ words_of (offset_in table.now) (input_head input.now) }
 {
-    let summary = &input.summary;
-    let path = table.offset(input.path.as_slice());
+    let name = input.name;
+    let summary = input.summary;
+    let path = table.offset(name.path.as_slice());
     let soname = table.offset(summary.soname.as_slice());
     let pieces = summary.pieces.as_slice().len() as u64;
     let globals = summary.globals.as_slice().len() as u64;
     let groups = summary.groups.as_slice().len() as u64;
     [
         pair(path, input.occurrence as u64),
-        pair(input_kind(input), input.lib as u64),
-        pair(stamp_flag(input.stamp), soname),
-        long(stamp_length(input.stamp)),
-        long(stamp_time(input.stamp)),
+        pair(input_kind(input), name.lib as u64),
+        pair(stamp_flag(name.stamp), soname),
+        long(stamp_length(name.stamp)),
+        long(stamp_time(name.stamp)),
         pair(pieces, globals),
         pair(groups, bit(summary.exec_stack)),
     ]
@@ -39,7 +40,7 @@ fn input_words(table: &StringTable<'_>, input: &InputRecord) -> [Word; 7]
 pub(crate) fn put_input_head(
     out: &mut Vec<u8>,
     table: &StringTable<'_>,
-    input: &InputRecord,
+    input: &RecordedInput<'_>,
 ) -> Result<(), NoMemory>
     ensures { OnOk result (out.new.items ≡ out.old.items ++ spelled (offset_in table.now) (input_head input.now)) }
 {
@@ -49,12 +50,12 @@ pub(crate) fn put_input_head(
 
 /// The kind of an input: 1 an object outside a lib group, 2 a lib member that was added, 3 one that was
 /// not, 4 a shared input.
-fn input_kind(input: &InputRecord) -> u64
+fn input_kind(input: &RecordedInput<'_>) -> u64
     ensures { result ≡ input_kind input.now }
 {
     match input.summary.kind {
         Kind::Shared => 4,
-        Kind::Object if input.lib == 0 => 1,
+        Kind::Object if input.name.lib == 0 => 1,
         Kind::Object if input.added => 2,
         Kind::Object => 3,
     }

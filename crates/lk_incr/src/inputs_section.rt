@@ -4,13 +4,15 @@ ghost use Rattle.std.specs.Prelude.{◌≡◌, IfOk};
 ghost use Rattle.lk_model.specs.InputsSection.{inputs_fields};
 ghost use Rattle.lk_model.specs.RecordFields.{spelled, texts_of};
 ghost use Rattle.lk_model.specs.Tail.{record_parts};
-ghost use Rattle.lk_model.specs.Texts.{offset_in, table_bytes, table_of};
+ghost use Rattle.lk_model.specs.Texts.{offset_in, table_of};
+ghost use Rattle.lk_model.specs.declared.records.Records.{Records};
+ghost use Rattle.lk_incr.specs.RecordParts.{nameless, parts_of};
 ghost use Rattle.lk_incr.specs.TailParts.{records_with};
 
 use crate::noting::note_inputs_section;
 use crate::placed_pieces::PlacedPieces;
 use crate::putting::put_inputs_section;
-use lk_model::records::Records;
+use crate::record_parts::RecordParts;
 use lk_report::{Bytes, NoMemory};
 use lk_string_table::StringTable;
 use std::alloc::Global;
@@ -26,13 +28,13 @@ pub struct InputsAndTexts {
 }
 
 /// The string table of records: their texts, in order of first use.
-fn texts_of_records(alloc: Global, records: &Records) -> Result<StringTable<'_>, NoMemory>
-    ensures { IfOk result (λ table. table ≡ table_of (texts_of (inputs_fields records.now))) }
+fn texts_of_records<'a>(alloc: Global, parts: &RecordParts<'a>) -> Result<StringTable<'a>, NoMemory>
+    ensures { IfOk result (λ table. table ≡ table_of (texts_of (inputs_fields (nameless parts.now)))) }
 {
-    let sections = records.placement.sections.as_slice().len();
-    let inputs = records.inputs.as_slice().len();
+    let sections = parts.placement.sections.as_slice().len();
+    let inputs = parts.inputs.as_slice().len();
     let mut table = StringTable::new(alloc, sections + inputs)?;
-    note_inputs_section(&mut table, records)?;
+    note_inputs_section(&mut table, parts)?;
     Ok(table)
 }
 
@@ -40,32 +42,29 @@ fn texts_of_records(alloc: Global, records: &Records) -> Result<StringTable<'_>,
 fn inputs_of_records(
     alloc: Global,
     table: &StringTable<'_>,
-    records: &Records,
+    parts: &RecordParts<'_>,
 ) -> Result<Bytes, NoMemory>
-    ensures { IfOk result (λ bytes. bytes ≡ spelled (offset_in table.now) (inputs_fields records.now)) }
+    ensures { IfOk result (λ bytes. bytes ≡ spelled (offset_in table.now) (inputs_fields (nameless parts.now))) }
 {
-    let placed = PlacedPieces::of(alloc, &records.placement)?;
+    let placed = PlacedPieces::of(alloc, parts.placement)?;
     let mut out = Vec::new(alloc);
-    put_inputs_section(&mut out, table, &placed, records)?;
+    put_inputs_section(&mut out, table, &placed, parts)?;
     Ok(Bytes::from_vec(out))
 }
 
-/// The two record sections of an image, in their first form (this project's own): the inputs and the texts.
+/// The two record sections of an image, in their first form (this project's own): the inputs and the texts, of any
+/// records with these parts.
 ///
-/// The records may be any. Of a number that is greater than its field, also a text's offset, the low bytes are
-/// written. Of several rows of one piece the first counts. The string table has each text once, in order of
-/// first use, after the empty one.
+/// Of a number that is greater than its field, also a text's offset, the low bytes are written. Of several rows of
+/// one piece the first counts. The string table has each text once, in order of first use, after the empty one.
 ///
 /// # Errors
 /// Out of memory.
-#[tactic(auto, unfolding(lk_model::specs::Tail::record_parts))]
-pub fn write_inputs(alloc: Global, records: &Records) -> Result<InputsAndTexts, NoMemory>
-    ensures inputs { let fields = inputs_fields records.now in IfOk result (λ made. made.inputs ≡ spelled (offset_in (table_of (texts_of fields))) fields) }
-    ensures texts { IfOk result (λ made. made.texts ≡ table_bytes (table_of (texts_of (inputs_fields records.now)))) }
-    ensures parts { IfOk result (λ made. records_with made.inputs made.texts ≡ record_parts records.now) }
+pub fn write_inputs(alloc: Global, parts: &RecordParts<'_>) -> Result<InputsAndTexts, NoMemory>
+    ensures { (records : Records) → parts.now ≡ parts_of records → IfOk result (λ made. records_with made.inputs made.texts ≡ record_parts records) }
 {
-    let table = texts_of_records(alloc, records)?;
-    let inputs = inputs_of_records(alloc, &table, records)?;
+    let table = texts_of_records(alloc, parts)?;
+    let inputs = inputs_of_records(alloc, &table, parts)?;
     let texts = table.bytes(alloc)?;
     Ok(InputsAndTexts { inputs, texts })
 }

@@ -7,9 +7,10 @@ ghost use Rattle.lk_model.specs.RecordFields.{texts_of};
 ghost use Rattle.lk_model.specs.Tail.{row_name};
 ghost use Rattle.lk_model.specs.Texts.{with_text};
 ghost use Rattle.lk_incr.specs.NotedTexts.{global_name, group_name, head_texts, input_texts, piece_name};
+ghost use Rattle.lk_incr.specs.RecordParts.{nameless};
 
+use crate::record_parts::{RecordParts, RecordedInput};
 use lk_model::layouts::SectionRow;
-use lk_model::records::{InputRecord, Records};
 use lk_model::summaries::{Global, Group, PieceInfo};
 use lk_report::{NoMemory, OptionRecord};
 use lk_string_table::StringTable;
@@ -67,11 +68,11 @@ fn note_groups<'a>(table: &mut StringTable<'a>, groups: &'a [Group]) -> Result<(
 }
 
 /// Notes the texts of an input.
-fn note_input<'a>(table: &mut StringTable<'a>, input: &'a InputRecord) -> Result<(), NoMemory>
+fn note_input<'a>(table: &mut StringTable<'a>, input: &RecordedInput<'a>) -> Result<(), NoMemory>
     ensures { OnOk result (table.new ≡ fold with_text table.old (input_texts input.now)) }
 {
-    let summary = &input.summary;
-    table.note(input.path.as_slice())?;
+    let summary = input.summary;
+    table.note(input.name.path.as_slice())?;
     table.note(summary.soname.as_slice())?;
     note_pieces(table, summary.pieces.as_slice())?;
     note_globals(table, summary.globals.as_slice())?;
@@ -79,7 +80,10 @@ fn note_input<'a>(table: &mut StringTable<'a>, input: &'a InputRecord) -> Result
 }
 
 /// Notes the texts of inputs.
-fn note_inputs<'a>(table: &mut StringTable<'a>, inputs: &'a [InputRecord]) -> Result<(), NoMemory>
+fn note_inputs<'a>(
+    table: &mut StringTable<'a>,
+    inputs: &[RecordedInput<'a>],
+) -> Result<(), NoMemory>
     ensures { OnOk result (table.new ≡ fold with_text table.old (flat_map input_texts inputs.now)) }
 {
     for input in inputs {
@@ -92,11 +96,11 @@ fn note_inputs<'a>(table: &mut StringTable<'a>, inputs: &'a [InputRecord]) -> Re
 #[tactic(auto, using(crate::proofs::TextsNoted::section_noted))]
 pub(crate) fn note_inputs_section<'a>(
     table: &mut StringTable<'a>,
-    records: &'a Records,
+    parts: &RecordParts<'a>,
 ) -> Result<(), NoMemory>
-    ensures { OnOk result (table.new ≡ fold with_text table.old (texts_of (inputs_fields records.now))) }
+    ensures { OnOk result (table.new ≡ fold with_text table.old (texts_of (inputs_fields (nameless parts.now)))) }
 {
-    note_head(table, &records.options)?;
-    note_sections(table, records.placement.sections.as_slice())?;
-    note_inputs(table, records.inputs.as_slice())
+    note_head(table, parts.options)?;
+    note_sections(table, parts.placement.sections.as_slice())?;
+    note_inputs(table, parts.inputs.as_slice())
 }

@@ -7,15 +7,16 @@ ghost use Rattle.lk_elf.specs.Fields.{bytes_of};
 ghost use Rattle.lk_model.specs.InputsSection.{global_fields, group_fields, input_fields, inputs_fields, piece_fields, section_fields};
 ghost use Rattle.lk_model.specs.RecordFields.{spelled};
 ghost use Rattle.lk_model.specs.Texts.{offset_in};
+ghost use Rattle.lk_incr.specs.RecordParts.{nameless};
 
 use crate::appending::put_short;
 use crate::heads::{put_head, put_section};
 use crate::input_heads::put_input_head;
 use crate::pieces::put_piece;
 use crate::placed_pieces::PlacedPieces;
+use crate::record_parts::{RecordParts, RecordedInput};
 use crate::summaries::{put_global, put_group_head};
 use lk_model::layouts::SectionRow;
-use lk_model::records::{InputRecord, Records};
 use lk_model::summaries::{Global, Group, PieceInfo};
 use lk_report::NoMemory;
 use lk_string_table::StringTable;
@@ -103,11 +104,11 @@ fn put_input(
     table: &StringTable<'_>,
     placed: &PlacedPieces<'_>,
     number: u64,
-    input: &InputRecord,
+    input: &RecordedInput<'_>,
 ) -> Result<(), NoMemory>
     ensures { OnOk result (out.new.items ≡ out.old.items ++ spelled (offset_in table.now) (input_fields placed.now (number, input.now))) }
 {
-    let summary = &input.summary;
+    let summary = input.summary;
     put_input_head(out, table, input)?;
     put_pieces(out, table, placed, number, summary.pieces.as_slice())?;
     put_globals(out, table, summary.globals.as_slice())?;
@@ -120,7 +121,7 @@ fn put_inputs(
     out: &mut Vec<u8>,
     table: &StringTable<'_>,
     placed: &PlacedPieces<'_>,
-    inputs: &[InputRecord],
+    inputs: &[RecordedInput<'_>],
 ) -> Result<(), NoMemory>
     ensures { OnOk result (out.new.items ≡ out.old.items ++ spelled (offset_in table.now) (flat_map (input_fields placed.now) (enumerate_from 0 inputs.now))) }
 {
@@ -135,13 +136,13 @@ pub(crate) fn put_inputs_section(
     out: &mut Vec<u8>,
     table: &StringTable<'_>,
     placed: &PlacedPieces<'_>,
-    records: &Records,
+    parts: &RecordParts<'_>,
 ) -> Result<(), NoMemory>
-    requires { placed.now ≡ records.now.placement }
-    ensures { OnOk result (out.new.items ≡ out.old.items ++ spelled (offset_in table.now) (inputs_fields records.now)) }
+    requires { placed.now ≡ parts.now.placement }
+    ensures { OnOk result (out.new.items ≡ out.old.items ++ spelled (offset_in table.now) (inputs_fields (nameless parts.now))) }
 {
-    put_head(out, table, records)?;
-    put_sections(out, table, records.placement.sections.as_slice())?;
-    put_inputs(out, table, placed, records.inputs.as_slice())?;
+    put_head(out, table, parts)?;
+    put_sections(out, table, parts.placement.sections.as_slice())?;
+    put_inputs(out, table, placed, parts.inputs.as_slice())?;
     Ok(())
 }

@@ -6,13 +6,15 @@ ghost use Rattle.lk_model.specs.RecordsOf.{records_of};
 ghost use Rattle.lk_model.specs.Tail.{header_names, record_parts, tail_parts};
 ghost use Rattle.lk_model.specs.Texts.{table_bytes, table_of};
 ghost use Rattle.lk_model.specs.Views.{Resolved};
+ghost use Rattle.lk_model.specs.declared.layouts.Placement.{Placement as Place};
 ghost use Rattle.lk_model.specs.declared.records.Records.{Records};
+ghost use Rattle.lk_incr.specs.RecordParts.{parts_of};
 ghost use Rattle.lk_incr.specs.TailParts.{part_with, tail_of, tail_with};
 
 use crate::inputs_section::{InputsAndTexts, write_inputs};
 use crate::noting::note_sections;
+use crate::record_parts::RecordParts;
 use lk_model::layouts::Placement;
-use lk_model::records::Records;
 use lk_report::{Bytes, List, Name, NoMemory};
 use lk_string_table::StringTable;
 use std::alloc::Global;
@@ -95,16 +97,17 @@ fn parts_with(alloc: Global, inputs: Bytes, texts: Bytes, names: Bytes) -> Resul
     Ok(parts)
 }
 
-/// The parts of an image's tail in their order: the inputs, the texts, the names of the sections.
+/// The parts of an image's tail in their order: the inputs, the texts, the names of the sections. They are those of
+/// any records with these parts.
 ///
 /// # Errors
 /// Out of memory.
-pub fn tail(alloc: Global, records: &Records) -> Result<Tail, NoMemory>
-    ensures any { IfOk result (λ parts. parts ≡ tail_of records.now) }
-    ensures of_link { (r : Resolved) → IfOk result (λ parts. records.now ≡ records_of r records.now.placement → parts ≡ tail_parts r records.now.placement) }
+pub fn tail(alloc: Global, parts: &RecordParts<'_>) -> Result<Tail, NoMemory>
+    ensures any { (records : Records) → parts.now ≡ parts_of records → IfOk result (λ made. made ≡ tail_of records) }
+    ensures of_link { (r : Resolved) (place : Place) → parts.now ≡ parts_of (records_of r place) → IfOk result (λ made. made ≡ tail_parts r place) }
 {
-    let InputsAndTexts { inputs, texts } = write_inputs(alloc, records)?;
-    let names = section_names(alloc, &records.placement)?;
-    let parts = parts_with(alloc, inputs, texts, names)?;
-    Ok(parts)
+    let InputsAndTexts { inputs, texts } = write_inputs(alloc, parts)?;
+    let names = section_names(alloc, parts.placement)?;
+    let made = parts_with(alloc, inputs, texts, names)?;
+    Ok(made)
 }

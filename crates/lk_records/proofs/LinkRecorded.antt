@@ -1,29 +1,24 @@
--- The records that are made of inputs are those of lk_model.
-use Rattle.std.proofs.Common.{◌≡◌, refl, sym, ap, ◌∙◌, arith, ℕ, suc, ◌+◌, nat_eq, ◌==◌, ◌||◌, List, [], ◌∷◌, length, map, filter_map, zip, IfOk, Result, Ok, Err}
+-- What is recorded of inputs is what lk_model's records have of them.
+use Rattle.std.proofs.Common.{◌≡◌, refl, sym, ap, ◌∙◌, arith, ℕ, suc, ◌+◌, nat_eq, ◌==◌, ◌||◌, List, [], ◌∷◌, length, map, IfOk, Result, Ok, Err}
 use Rattle.std.proofs.lemmas.Bool.Decides.{nat_tests}
-use Rattle.std.specs.List.{cons_option, enumerate_from, list_any, range_with_len}
+use Rattle.std.specs.List.{enumerate_from, list_any, range_with_len}
 use Rattle.lk_report.specs.declared.causes.OptionRecord.{OptionRecord}
 use Rattle.lk_report.specs.declared.memory.NoMemory.{NoMemory}
-use Rattle.lk_model.specs.declared.layouts.Placement.{Placement}
-use Rattle.lk_model.specs.declared.records.NameRow.{NameRow as RecordedRow}
-use Rattle.lk_model.specs.declared.records.Records.{Records}
-use Rattle.lk_model.specs.declared.records.Reference.{Reference}
-use Rattle.lk_model.specs.declared.summaries.InputSummary.{InputSummary}
-use Rattle.lk_marks.specs.Marked.{marks_of}
-use Rattle.lk_model.specs.Numbered.{is_number_in}
-use Rattle.lk_model.specs.RecordsOf.{input_record, name_row, recorded_reference, recorded_through, records_of}
-use Rattle.lk_model.specs.References.{recorded, recorded_of}
-use Rattle.lk_model.specs.Resolving.{paths_of, resolve}
-use Rattle.lk_model.specs.Views.{Input, Ref, Through}
-use Rattle.lk_model.specs.InputNames.{name_of}
-use Rattle.lk_model.specs.InputNames.{input_summary}
-use Rattle.lk_resolve.specs.Given.{found_in}
 use Rattle.lk_model.specs.declared.input_names.InputName.{InputName}
+use Rattle.lk_model.specs.declared.layouts.Placement.{Placement}
+use Rattle.lk_model.specs.declared.summaries.InputSummary.{InputSummary}
+use Rattle.lk_model.specs.InputNames.{input_summary}
+use Rattle.lk_model.specs.InputNames.{name_of}
+use Rattle.lk_model.specs.Numbered.{is_number_in}
+use Rattle.lk_model.specs.RecordsOf.{input_record, records_of}
+use Rattle.lk_model.specs.Resolving.{paths_of, resolve}
+use Rattle.lk_model.specs.Views.{Input}
+use Rattle.lk_incr.specs.RecordParts.{RecordPartsValue, parts_of, record_with}
+use Rattle.lk_marks.specs.Marked.{marks_of}
+use Rattle.lk_resolve.specs.Given.{found_in}
 use Rattle.lk_resolve.specs.Settling.{IsFound, ResolutionValue}
-use Rattle.lk_symtab.specs.NameRows.{NameRow, all_symbols, row_winner}
 use Rattle.lk_records.specs.Gathered.{gathered}
-use Rattle.lk_records.specs.InputRecords.{record_with, records_with}
-use Rattle.lk_records.specs.NameRecords.{recorded_name}
+use Rattle.lk_records.specs.InputRecords.{records_with}
 use Rattle.lk_records.specs.Occurrences.{OccurrencesAreRight, name_path, occurrence_of, occurrences_after}
 
 -- ---- the inputs
@@ -55,40 +50,22 @@ inputs_recorded added xs right =
     ∙ ap (λ ns. records_with (map name_of xs) ns (marks_of added (length xs)) (map input_summary xs)) (sym right)
     ∙ inputs_reported added 0 xs
 
--- ---- the names
-
-names_reported : (rows : List NameRow) → map recorded_name rows ≡ map name_row (zip (all_symbols rows) (map row_winner rows))
-names_reported [] = refl
-names_reported (row ∷ rows) = ap (λ (l : List RecordedRow). recorded_name row ∷ l) (names_reported rows)
-
--- ---- the references
-
-reference_reported : (ref : Ref) (through : Through) → recorded (record ref { through = through }) ≡ recorded_through ref through
-reference_reported ref (Through.ByName name weak) = refl
-reference_reported ref (Through.ByLocal symbol) = refl
-
-references_reported : (refs : List Ref) → recorded_of refs ≡ filter_map recorded_reference refs
-references_reported [] = refl
-references_reported (ref ∷ refs) = λ i. cons_option (reference_reported ref ref.through i) (references_reported refs i)
-
 -- ---- all of it
 
 gathered_reported : (options : OptionRecord) (xs : List Input) (resolution : ResolutionValue) (place : Placement) → OccurrencesAreRight xs → IsFound resolution (found_in options.entry xs)
-    → gathered options (map name_of xs) (map input_summary xs) resolution (recorded_of (resolve options xs).references) place ≡ records_of (resolve options xs) place
+    → gathered options (map name_of xs) (map input_summary xs) resolution place ≡ parts_of (records_of (resolve options xs) place)
 unfolding gathered records_of resolve
 gathered_reported options xs resolution place right found =
     λ i. record {
       version = 1;
       options = record options { dynamic = found.dynamic i };
       inputs = (inputs_recorded resolution.added xs right ∙ ap (λ added. map (input_record added) (enumerate_from 0 xs)) found.added) i;
-      names = (names_reported resolution.rows ∙ (λ j. map name_row (zip (found.names j) (found.winners j)))) i;
-      references = references_reported (resolve options xs).references i;
       placement = place;
     }
 
-pub link_recorded : (options : OptionRecord) (xs : List Input) (names : List InputName) (summaries : List InputSummary) (resolution : ResolutionValue) (references : List Reference) (place : Placement) (r : Result Records NoMemory)
-    → IfOk r (λ (records : Records). records ≡ gathered options names summaries resolution references place) → names ≡ map name_of xs → summaries ≡ map input_summary xs → OccurrencesAreRight xs → IsFound resolution (found_in options.entry xs)
-    → references ≡ recorded_of (resolve options xs).references → IfOk r (λ (records : Records). records ≡ records_of (resolve options xs) place)
-link_recorded options xs names summaries resolution references place (Ok records) is of_names of_summaries right found of_references =
-    is ∙ (λ i. gathered options (of_names i) (of_summaries i) resolution (of_references i) place) ∙ gathered_reported options xs resolution place right found
-link_recorded options xs names summaries resolution references place (Err want) is of_names of_summaries right found of_references = tt
+pub link_recorded : (options : OptionRecord) (xs : List Input) (names : List InputName) (summaries : List InputSummary) (resolution : ResolutionValue) (place : Placement) (r : Result RecordPartsValue NoMemory)
+    → IfOk r (λ (parts : RecordPartsValue). parts ≡ gathered options names summaries resolution place) → names ≡ map name_of xs → summaries ≡ map input_summary xs → OccurrencesAreRight xs → IsFound resolution (found_in options.entry xs)
+    → IfOk r (λ (parts : RecordPartsValue). parts ≡ parts_of (records_of (resolve options xs) place))
+link_recorded options xs names summaries resolution place (Ok parts) is of_names of_summaries right found =
+    is ∙ (λ i. gathered options (of_names i) (of_summaries i) resolution place) ∙ gathered_reported options xs resolution place right found
+link_recorded options xs names summaries resolution place (Err want) is of_names of_summaries right found = tt
