@@ -137,9 +137,9 @@ ROWS = [
     # identification
     ([head("class", 1)], "WrongClass"), ([head("data", 2)], "WrongClass"), ([head("version", 2)], "WrongClass"),
     ([head("machine", 3)], "WrongMachine"), ([head("type", 2)], "WrongType"), ([head("type", 4)], "WrongType"),
-    ([head("type", 3)], "WrongType"),
     ([head("class", 1), head("machine", 3)], "WrongClass"), ([head("machine", 3), head("type", 2)], "WrongMachine"),
-    ([head("type", 3), head("shnum", 0)], "WrongType"),
+    # of type 3 it is a shared object, of which the section table is looked at first and then its dynamic section
+    ([head("type", 3)], "NoDynamic"), ([head("type", 3), head("shnum", 0)], "BadTable 0"),
     # the section table
     ([head("shentsize", 63)], "BadTable 0"), ([head("shnum", 0)], "BadTable 0"), ([head("shnum", COUNT + 1)], "BadTable 0"),
     ([head("shoff", TABLE + 1)], "BadTable 0"), ([head("shoff", 2**64 - 1)], "BadTable 0"),
