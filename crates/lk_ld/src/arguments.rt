@@ -22,7 +22,7 @@ pub enum Arguments {
     NoMemory,
 }
 
-/// What the program's arguments are, by what the system reported of them.
+/// The program's arguments, by the system's answer.
 pub fn arguments_of(alloc: Global, reported: io::Result<Args>) -> Arguments
     ensures { MatchResult reported (λ all. AreWords (map string_bytes (drop 1 (into_iter_items all))) result) (λ error. result ≡ unknown (error_kind error)) }
 {
@@ -35,7 +35,7 @@ pub fn arguments_of(alloc: Global, reported: io::Result<Args>) -> Arguments
     }
 }
 
-/// Why the arguments could not be had.
+/// The answer where the system has no arguments.
 fn unread(error: io::Error) -> Arguments
     ensures { result ≡ unknown (error_kind error) }
 {

@@ -1,4 +1,4 @@
-//! What the system said where a read or the device failed.
+//! The system's own error where a read or the device failed.
 
 ghost use Rattle.std.specs.Prelude.{◌≡◌, option_map};
 ghost use Rattle.lk_ld.specs.Reasons.{IsTextOf, reported_of, reason_in};
@@ -6,7 +6,7 @@ ghost use Rattle.lk_ld.specs.Reasons.{IsTextOf, reported_of, reason_in};
 use lk_report::{Name, Status};
 use std::{io, str};
 
-/// An error that the system gave, and the path that it speaks of.
+/// An error of the system, and the path that it is about.
 #[derive(Clone, Copy)]
 pub struct Reason<'a> {
     /// The path.
@@ -15,8 +15,7 @@ pub struct Reason<'a> {
     pub error: io::Error,
 }
 
-/// The error that is to be reported of a link that ended with a status, by what the system said last of the inputs and
-/// of the output.
+/// The error to report of a link that ended with this status, by the last errors of the inputs and of the output.
 pub fn reason_of<'a>(
     status: &'a Status,
     output: &'a Name,
