@@ -143,7 +143,7 @@ fn calls_done(device: &mut MemoryDevice) -> [bool; 5] {
 }
 
 fn device_of(alloc: Global, bytes: &[u8]) -> Result<MemoryDevice, NoMemory> {
-    Ok(MemoryDevice::of(alloc, Bytes::from_slice(alloc, bytes)?))
+    MemoryDevice::of(alloc, &Bytes::from_slice(alloc, bytes)?)
 }
 
 #[test]
@@ -202,7 +202,7 @@ fn use_sure_device(device: &mut SureDevice) -> [bool; 4] {
 #[test]
 fn a_sure_device_takes_writes_and_cuts(rt: HostRuntime) -> Result<(), NoMemory> {
     let bytes = Bytes::from_slice(rt.alloc(), b"abc")?;
-    let mut device = SureDevice::of(rt.alloc(), bytes);
+    let mut device = SureDevice::of(rt.alloc(), &bytes)?;
     let mut into = [0u8; 0];
     assert_eq!(rt; device.read_at(0, &mut into), Answer::Done);
     assert_eq!(rt; use_sure_device(&mut device), [true; 4]);

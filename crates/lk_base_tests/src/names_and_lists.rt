@@ -19,8 +19,10 @@ fn expect_copied<T: TryCopy + PartialEq + Drop>(
 #[test]
 fn names_are_made_and_copied(rt: HostRuntime) -> Result<(), NoMemory> {
     let word = Name::from_slice(rt.alloc(), b"main")?;
+    assert_eq!(rt; Name::from_static(b"main"), word);
+    assert!(rt; Name::empty().as_slice().is_empty());
     expect_copied(&rt, rt.alloc(), &word)?;
-    assert_eq!(rt; word.into_vec().as_slice(), b"main".as_slice());
+    assert_eq!(rt; word.as_slice(), b"main".as_slice());
     Ok(())
 }
 
@@ -28,7 +30,27 @@ fn names_are_made_and_copied(rt: HostRuntime) -> Result<(), NoMemory> {
 fn bytes_are_made_and_copied(rt: HostRuntime) -> Result<(), NoMemory> {
     let bytes = Bytes::from_slice(rt.alloc(), &[0, 255])?;
     expect_copied(&rt, rt.alloc(), &bytes)?;
-    assert_eq!(rt; bytes.into_vec().as_slice(), [0, 255].as_slice());
+    assert!(rt; Bytes::empty().as_slice().is_empty());
+    assert_eq!(rt; bytes.as_slice(), [0, 255].as_slice());
+    Ok(())
+}
+
+#[test]
+fn a_name_is_a_part_of_the_bytes_of_a_file(rt: HostRuntime) -> Result<(), NoMemory> {
+    let file = Bytes::from_slice(rt.alloc(), b"\0main\0")?;
+    let name = file.name(1, 5)?;
+    drop(file);
+    assert_eq!(rt; name.as_slice(), b"main".as_slice());
+    Ok(())
+}
+
+#[test]
+fn names_are_made_of_bytes_that_are_given(rt: HostRuntime) -> Result<(), NoMemory> {
+    let mut given = Vec::new(rt.alloc());
+    if given.extend_from_slice(b"main").is_err() {
+        return Err(NoMemory);
+    }
+    assert_eq!(rt; Name::from_vec(given)?.as_slice(), b"main".as_slice());
     Ok(())
 }
 

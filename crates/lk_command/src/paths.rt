@@ -75,5 +75,5 @@ pub(crate) fn run_path_of(alloc: Global, phrases: &[Phrase<'_>]) -> Result<Name,
             first = false;
         }
     }
-    Ok(Name::from_vec(path))
+    Name::from_vec(path)
 }

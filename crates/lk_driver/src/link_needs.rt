@@ -32,7 +32,7 @@ fn path_of_first(alloc: Global, names: &[InputName]) -> Result<Name, NoMemory>
 {
     match names.first() {
         Some(name) => name.path.copy(alloc),
-        None => Ok(Name::from_vec(Vec::new(alloc))),
+        None => Ok(Name::empty()),
     }
 }
 

@@ -86,7 +86,7 @@ pub fn plt_table(alloc: Global, place: &Placement) -> Result<Bytes, NoMemory>
     for number in 0..place.slots.plt.as_slice().len() {
         put_entry(&mut out, plt, got, number)?;
     }
-    Ok(Bytes::from_vec(out))
+    Bytes::from_vec(out)
 }
 
 /// Puts the three words that are the dynamic linker's at the end: the address of `.dynamic`, and two zeros.
@@ -113,5 +113,5 @@ pub fn got_plt_table(alloc: Global, place: &Placement) -> Result<Bytes, NoMemory
     for number in 0..place.slots.plt.as_slice().len() {
         put_long(&mut out, in_entry(plt, number, 6))?;
     }
-    Ok(Bytes::from_vec(out))
+    Bytes::from_vec(out)
 }

@@ -116,5 +116,5 @@ pub fn hash_table(alloc: Global, names: &SymTab, numbers: &[u32]) -> Result<Byte
 {
     let hashes = name_hashes(alloc, names, numbers)?;
     let table = table_by(alloc, hashes.as_slice())?;
-    Ok(Bytes::from_vec(table))
+    Bytes::from_vec(table)
 }

@@ -29,5 +29,5 @@ pub fn interp_table(alloc: Global, given: &Name) -> Result<Bytes, NoMemory>
 {
     let mut out = Vec::new(alloc);
     put_text(&mut out, interpreter_path(given.as_slice()))?;
-    Ok(Bytes::from_vec(out))
+    Bytes::from_vec(out)
 }

@@ -81,5 +81,5 @@ pub fn rela_plt_table(
     let got = section_start(place, b".got.plt", Class::W);
     let mut out = Vec::new(alloc);
     put_jumps(&mut out, numbers, got, place.slots.plt.as_slice())?;
-    Ok(Bytes::from_vec(out))
+    Bytes::from_vec(out)
 }

@@ -98,5 +98,5 @@ pub fn rela_dyn_table(
     let mut out = Vec::new(alloc);
     put_slots(&mut out, numbers, got, fills)?;
     put_copies(&mut out, numbers, &addresses, copies)?;
-    Ok(Bytes::from_vec(out))
+    Bytes::from_vec(out)
 }

@@ -50,7 +50,7 @@ fn front_bytes(
     };
     put_front(&mut out, placement, tail, entry, exec_stack, count)?;
     put_zeros_to(&mut out, SEAL_OFFSET)?;
-    Ok(Bytes::from_vec(out))
+    Bytes::from_vec(out)
 }
 
 /// The first 4,088 bytes of an image, up to its seal (gABI "ELF Header", "Program Header"; the seal is this

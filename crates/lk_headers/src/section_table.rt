@@ -81,5 +81,5 @@ pub fn section_headers(
         return Err(NoMemory);
     };
     put_table(&mut out, &names, placement, tail)?;
-    Ok(Bytes::from_vec(out))
+    Bytes::from_vec(out)
 }

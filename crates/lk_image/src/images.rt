@@ -95,5 +95,5 @@ pub fn link_image(
     check_length(tail.length)?;
     let mut image = zeros(alloc, tail.length as usize)?;
     fill_image(alloc, objects, &values, front.as_slice(), &tail, &mut image)?;
-    Ok(Bytes::from_vec(image))
+    Ok(Bytes::from_vec(image)?)
 }

@@ -103,7 +103,7 @@ fn piece(alloc: Global, row: &Piece) -> Result<PieceInfo, NoMemory> {
         section,
         name,
         key: SectionKey {
-            name: Name::from_vec(Vec::new(alloc)),
+            name: Name::empty(),
             class,
         },
         size,

@@ -49,7 +49,7 @@ fn inputs_of_records(
     let placed = PlacedPieces::of(alloc, parts.placement)?;
     let mut out = Vec::new(alloc);
     put_inputs_section(&mut out, table, &placed, parts)?;
-    Ok(Bytes::from_vec(out))
+    Bytes::from_vec(out)
 }
 
 /// The two record sections of an image, in their first form (this project's own): the inputs and the texts, of any

@@ -31,7 +31,7 @@ fn candidate(alloc: Global, dir: &[u8], name: &Name) -> Result<Name, NoMemory>
     put_bytes(&mut path, b"/lib")?;
     put_bytes(&mut path, name.as_slice())?;
     put_bytes(&mut path, b".so")?;
-    Ok(Name::from_vec(path))
+    Name::from_vec(path)
 }
 
 /// The paths of a library in directories, in order.
@@ -84,5 +84,5 @@ pub fn missing_path(alloc: Global, word: &Word) -> Result<Name, NoMemory>
     let mut path = Vec::new(alloc);
     put_bytes(&mut path, b"-l")?;
     put_bytes(&mut path, word.text.as_slice())?;
-    Ok(Name::from_vec(path))
+    Name::from_vec(path)
 }

@@ -34,7 +34,7 @@ fn judge(alloc: Global, files: &[InputFile]) -> Result<Judged, NoMemory>
     let mut summaries = List::new(alloc);
     let mut faults = List::new(alloc);
     for file in files {
-        match summarize(alloc, file.bytes.as_slice()) {
+        match summarize(alloc, &file.bytes) {
             Ok(summary) => summaries.push(summary)?,
             Err(ReadFailure::Input(fault)) => faults.push(fault_of(alloc, file, fault)?)?,
             Err(ReadFailure::NoMemory) => return Err(NoMemory),

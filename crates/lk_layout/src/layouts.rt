@@ -55,7 +55,7 @@ fn laid_out(
     let Ok(key) = bss_key(alloc) else {
         return Err(LayoutFault::NoMemory);
     };
-    let name = Name::from_vec(Vec::new(alloc));
+    let name = Name::empty();
     let nameless = Nameless {
         key: &key,
         name: &name,

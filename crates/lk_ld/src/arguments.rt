@@ -59,7 +59,7 @@ fn names_of(alloc: Global, all: Args) -> Result<NameList, NoMemory>
 {
     let mut words = List::new(alloc);
     for argument in all {
-        words.push(Name::from_vec(argument.into_bytes()))?;
+        words.push(Name::from_vec(argument.into_bytes())?)?;
     }
     Ok(words)
 }

@@ -68,7 +68,7 @@ fn symbol(
 fn object(alloc: Global, asked: &[Asked], globals: GlobalList) -> Result<InputSummary, NoMemory> {
     Ok(InputSummary {
         kind: Kind::Object,
-        soname: Name::from_vec(Vec::new(alloc)),
+        soname: Name::empty(),
         exec_stack: false,
         pieces: pieces(alloc, asked)?,
         globals,
@@ -102,8 +102,8 @@ fn resolved(alloc: Global, objects: &SummaryList) -> Result<Resolution, NoMemory
 fn options(alloc: Global, patch: u32) -> Result<OptionRecord, NoMemory> {
     Ok(OptionRecord {
         entry: Name::from_slice(alloc, b"_start")?,
-        interp: Name::from_vec(Vec::new(alloc)),
-        runpath: Name::from_vec(Vec::new(alloc)),
+        interp: Name::empty(),
+        runpath: Name::empty(),
         patch,
         export_dynamic: false,
         dynamic: false,

@@ -287,7 +287,7 @@ fn shared(alloc: Global) -> Result<InputSummary, NoMemory> {
     globals.push(function(alloc)?)?;
     Ok(InputSummary {
         kind: Kind::Shared,
-        soname: Name::from_vec(Vec::new(alloc)),
+        soname: Name::empty(),
         exec_stack: false,
         pieces: List::new(alloc),
         globals,

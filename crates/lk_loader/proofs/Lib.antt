@@ -1,4 +1,3 @@
-pub mod ClosedTexts
 pub mod Ranges
 pub mod EntriesCounted
 pub mod AllOf

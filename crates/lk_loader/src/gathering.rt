@@ -55,7 +55,7 @@ pub(crate) fn bytes_in_memory(
 {
     let found = gathered(alloc, runs, address, size)?;
     if found.len() as u64 == size {
-        Ok(Some(Bytes::from_vec(found)))
+        Ok(Some(Bytes::from_vec(found)?))
     } else {
         Ok(None)
     }

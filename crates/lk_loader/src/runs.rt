@@ -37,7 +37,7 @@ fn run_under(alloc: Global, image: &[u8], header: &Phdr) -> Result<Run, NoMemory
     Ok(Run {
         addr: header.p_vaddr,
         flags: header.p_flags,
-        bytes: Bytes::from_vec(bytes),
+        bytes: Bytes::from_vec(bytes)?,
     })
 }
 

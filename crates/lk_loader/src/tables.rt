@@ -32,7 +32,7 @@ fn table_at(
     ensures { IfOk result (λ table. table ≡ table_at (run_memory runs.now) address size) }
 {
     match address {
-        None => Ok(Some(Bytes::from_vec(Vec::new(alloc)))),
+        None => Ok(Some(Bytes::empty())),
         Some(address) => bytes_in_memory(alloc, runs, address, size),
     }
 }

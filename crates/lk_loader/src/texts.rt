@@ -30,7 +30,7 @@ fn zero_in(bytes: &[u8]) -> Option<usize>
 }
 
 /// A text up to its closing zero; none where no zero follows.
-#[tactic(auto, using(crate::proofs::ClosedTexts::text_none, crate::proofs::ClosedTexts::text_some))]
+#[tactic(auto, using(lk_model::proofs::ClosedTexts::text_none, lk_model::proofs::ClosedTexts::text_some))]
 fn text_in(bytes: &[u8]) -> Option<&[u8]>
     ensures { option_copied result ≡ text_in bytes.now }
 {

@@ -22,3 +22,4 @@ pub mod DynamicLengths
 pub mod LimitsExceeded
 pub mod AddedOnce
 pub mod FileHeaderBack
+pub mod ClosedTexts

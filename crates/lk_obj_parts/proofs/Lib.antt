@@ -1,10 +1,10 @@
-pub mod ClosedTexts
 pub mod FaultParts
 pub mod FaultsFirst
 pub mod Headers
 pub mod Rows
 pub mod SymbolFaults
 pub mod SymbolRows
+pub mod SharedTexts
 pub mod Tables
 pub mod SymbolsUnread
 pub mod Entries

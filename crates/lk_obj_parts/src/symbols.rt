@@ -14,16 +14,16 @@ ghost use Rattle.lk_model.specs.Elf.{first_of_type, name_at, numbered, symbol_ta
 ghost use Rattle.lk_model.specs.Objects.{binding_of, global_with, globals_in, home_of, is_local, local_in, local_with, type_of};
 ghost use Rattle.lk_model.specs.Views.{Elf};
 ghost use Rattle.lk_obj_parts.specs.ElfViews.{elf_from};
-ghost use Rattle.lk_obj_parts.specs.SymbolParts.{global_at, global_named, local_among, name_in, strings_named};
+ghost use Rattle.lk_obj_parts.specs.SymbolParts.{global_at, local_among, name_in, strings_named};
 
 use crate::file_table::lies_in;
-use crate::texts::name_at;
+use crate::texts::{name_at, shared_name};
 use lk_elf::numbers::{
     SHN_ABS, SHN_COMMON, SHN_UNDEF, SHT_SYMTAB, STB_LOCAL, STT_NOTYPE, SYM_SIZE,
 };
 use lk_elf::{Shdr, Sym};
 use lk_model::summaries::{Global as Symbol, GlobalList, Home, Local};
-use lk_report::{Name, NoMemory};
+use lk_report::{Bytes, Name, NoMemory};
 use std::alloc::Global;
 
 /// The number and the header of the first symbol table.
@@ -163,41 +163,24 @@ fn count_globals(symbols: &[Sym]) -> usize
     symbols.iter().filter(|symbol| !is_local(symbol)).count()
 }
 
-/// A symbol with this name; none without a name.
-fn global_named(
-    alloc: Global,
-    k: u32,
-    symbol: &Sym,
-    name: Option<&[u8]>,
-) -> Result<Option<Symbol>, NoMemory>
-    ensures { IfOk result (λ global. global ≡ global_named k symbol.now (option_copied name.entry)) }
-{
-    match name {
-        None => Ok(None),
-        Some(name) => {
-            let name = Name::from_slice(alloc, name)?;
-            Ok(Some(global_with(k, symbol, name)))
-        }
-    }
-}
-
 /// A symbol that is not LOCAL and has a name; none of another.
 #[tactic(auto, unfolding(crate::specs::SymbolParts::global_at))]
 fn global_at(
-    alloc: Global,
-    bytes: &[u8],
+    file: &Bytes,
     sections: &[Shdr],
     strings: u32,
     k: u32,
     symbol: &Sym,
 ) -> Result<Option<Symbol>, NoMemory>
-    ensures { IfOk result (λ global. global ≡ global_at bytes.now sections.now strings k symbol.now) }
+    ensures { IfOk result (λ global. global ≡ global_at file.now sections.now strings k symbol.now) }
 {
     if is_local(symbol) {
         return Ok(None);
     }
-    let name = name_in(bytes, sections, strings, symbol.st_name);
-    global_named(alloc, k, symbol, name)
+    match shared_name(file, sections, strings, symbol.st_name)? {
+        None => Ok(None),
+        Some(name) => Ok(Some(global_with(k, symbol, name))),
+    }
 }
 
 /// Puts a symbol at the end, where there is one.
@@ -213,24 +196,24 @@ fn keep(globals: &mut Vec<Symbol>, global: Option<Symbol>) -> Result<(), NoMemor
     }
 }
 
-/// The symbols that are not LOCAL and have a name, by rising number.
+/// The symbols that are not LOCAL and have a name, by rising number. Their names share the bytes of the file.
 #[tactic(auto, using(crate::proofs::SymbolRows::next_global, crate::proofs::SymbolRows::no_global_left), unfolding(lk_model::specs::Objects::globals_in))]
 pub fn globals_of(
     alloc: Global,
-    bytes: &[u8],
+    file: &Bytes,
     sections: &[Shdr],
     symbols: &[Sym],
 ) -> Result<GlobalList, NoMemory>
     requires few_sections { length sections.now < 2 ^ 32 }
     requires few_symbols { length symbols.now < 2 ^ 32 }
-    ensures { (header : Ehdr) → IfOk result (λ globals. globals ≡ globals_in (elf_from bytes.now header sections.now symbols.now)) }
+    ensures { (header : Ehdr) → IfOk result (λ globals. globals ≡ globals_in (elf_from file.now header sections.now symbols.now)) }
 {
     let strings = strings_of(sections);
     let Ok(mut globals) = Vec::with_capacity(alloc, count_globals(symbols)) else {
         return Err(NoMemory);
     };
     for k in 1..symbols.len() {
-        let global = global_at(alloc, bytes, sections, strings, k as u32, &symbols[k])?;
+        let global = global_at(file, sections, strings, k as u32, &symbols[k])?;
         keep(&mut globals, global)?;
     }
     Ok(GlobalList::from_vec(globals))

@@ -1,11 +1,14 @@
-//! Names in string sections (gABI "String Table"): slices of the file, which nothing copies.
+//! Names in string sections (gABI "String Table"): slices of the file, or names that share its bytes. Nothing is
+//! copied.
 
-ghost use Rattle.std.specs.Prelude.{◌≡◌, ◌==◌, [], take, drop, position};
+ghost use Rattle.std.specs.Prelude.{◌≡◌, ◌==◌, [], take, drop, position, IfOk};
 ghost use Rattle.std.specs.Option.{option_copied};
 ghost use Rattle.lk_model.specs.Elf.{name_at, section_name, text_in};
 ghost use Rattle.lk_obj_parts.specs.ElfViews.{elf_from, header_at};
+ghost use Rattle.lk_obj_parts.specs.SymbolParts.{name_in};
 
 use lk_elf::{Ehdr, Shdr};
+use lk_report::{Bytes, Name, NoMemory};
 
 /// What is from `at` on; nothing past the end.
 pub fn rest_from(bytes: &[u8], at: usize) -> &[u8]
@@ -42,7 +45,7 @@ fn zero_in(bytes: &[u8]) -> Option<usize>
 }
 
 /// A text up to its closing zero; none where no zero follows.
-#[tactic(auto, using(crate::proofs::ClosedTexts::text_none, crate::proofs::ClosedTexts::text_some))]
+#[tactic(auto, using(lk_model::proofs::ClosedTexts::text_none, lk_model::proofs::ClosedTexts::text_some))]
 pub fn text_in(bytes: &[u8]) -> Option<&[u8]>
     ensures { option_copied result ≡ text_in bytes.now }
 {
@@ -92,5 +95,50 @@ pub fn section_name<'a>(
     match header_at(sections, n) {
         None => None,
         Some(found) => name_at(bytes, sections, u32::from(header.e_shstrndx), found.sh_name),
+    }
+}
+
+/// The name at an offset of a string section, as `name_at`, which shares the bytes of the file.
+///
+/// # Errors
+/// Out of memory.
+#[tactic(auto, using(lk_model::proofs::ClosedTexts::text_none, lk_model::proofs::ClosedTexts::text_some, crate::proofs::SharedTexts::text_lies, crate::proofs::SharedTexts::text_shared), unfolding(crate::specs::SymbolParts::name_in))]
+pub fn shared_name(
+    file: &Bytes,
+    sections: &[Shdr],
+    strings: u32,
+    offset: u32,
+) -> Result<Option<Name>, NoMemory>
+    ensures { IfOk result (λ name. name ≡ name_in file.now sections.now strings offset) }
+{
+    let Some(header) = header_at(sections, strings) else {
+        return Ok(None);
+    };
+    let rest = rest_from(section_bytes(file.as_slice(), header), offset as usize);
+    match zero_in(rest) {
+        None => Ok(None),
+        Some(length) => {
+            let start = header.sh_offset as usize + offset as usize;
+            Ok(Some(file.name(start, start + length)?))
+        }
+    }
+}
+
+/// The name of a section, as `section_name`, which shares the bytes of the file.
+///
+/// # Errors
+/// Out of memory.
+#[tactic(auto, using(crate::proofs::Headers::section_reported, crate::proofs::SymbolRows::name_reported), unfolding(lk_model::specs::Elf::section_name))]
+pub fn shared_section_name(
+    file: &Bytes,
+    header: &Ehdr,
+    sections: &[Shdr],
+    n: u32,
+) -> Result<Option<Name>, NoMemory>
+    ensures { IfOk result (λ name. name ≡ section_name (elf_from file.now header.now sections.now []) n) }
+{
+    match header_at(sections, n) {
+        None => Ok(None),
+        Some(found) => shared_name(file, sections, u32::from(header.e_shstrndx), found.sh_name),
     }
 }

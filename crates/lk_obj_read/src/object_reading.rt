@@ -56,7 +56,7 @@ pub fn read_object(alloc: Global, bytes: Bytes) -> Result<Object, ReadFailure>
 {
     let file = bytes.as_slice();
     let parts = sound_parts(alloc, file)?;
-    let summary = read_summary(alloc, file, &parts.header, &parts.sections, &parts.symbols)?;
+    let summary = read_summary(alloc, &bytes, &parts.header, &parts.sections, &parts.symbols)?;
     Ok(object_with(alloc, bytes, parts.sections, summary)?)
 }
 
@@ -102,10 +102,10 @@ pub fn object_of(alloc: Global, bytes: Bytes, summary: InputSummary) -> Result<O
 ///
 /// # Errors
 /// The file's first fault, or out of memory, which is tied to no cause.
-pub fn summarize(alloc: Global, bytes: &[u8]) -> Result<InputSummary, ReadFailure>
-    requires { length bytes.now ≤ 24 * 2 ^ 32 }
-    ensures { ReadGives (object_fault bytes.now) (λ summary. summary ≡ summary_in (elf_of bytes.now)) result }
+pub fn summarize(alloc: Global, file: &Bytes) -> Result<InputSummary, ReadFailure>
+    requires { length file.now ≤ 24 * 2 ^ 32 }
+    ensures { ReadGives (object_fault file.now) (λ summary. summary ≡ summary_in (elf_of file.now)) result }
 {
-    let parts = sound_parts(alloc, bytes)?;
-    Ok(read_summary(alloc, bytes, &parts.header, &parts.sections, &parts.symbols)?)
+    let parts = sound_parts(alloc, file.as_slice())?;
+    Ok(read_summary(alloc, file, &parts.header, &parts.sections, &parts.symbols)?)
 }

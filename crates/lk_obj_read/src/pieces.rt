@@ -3,7 +3,8 @@
 //! A terminator of frames is four zero bytes without relocations. Where a section holds four zero bytes, which
 //! sections have relocations is found for all of them at once, so that no list of relocations is looked for; in
 //! most objects none does, and no mark is made. Cost: one look at each section header, one at the name of each
-//! section that can be a piece by its type and flags, and two names copied for each piece.
+//! section that can be a piece by its type and flags. No name is copied: those of pieces share the bytes of the
+//! file, and those of output sections share them too, or are there for good.
 
 ghost use Rattle.std.specs.Prelude.{◌≡◌, ◌<◌, ◌^◌, ◌++◌, List, [], bytes_eq, drop, length, option_and_then, option_to_list, take, IfOk, OnOk};
 ghost use Rattle.std.specs.List.{list_any};
@@ -20,9 +21,9 @@ use lk_elf::numbers::SHT_NOBITS;
 use lk_elf::{Ehdr, Shdr};
 use lk_model::layouts::{Class, SectionKey};
 use lk_model::summaries::{PieceInfo, PieceInfoList};
-use lk_obj_parts::section_name;
-use lk_outsec::{key_of, may_be_piece};
-use lk_report::{Name, NoMemory};
+use lk_obj_parts::shared_section_name;
+use lk_outsec::{key_for, may_be_piece};
+use lk_report::{Bytes, Name, NoMemory};
 use std::alloc::Global;
 
 /// What is from `at` on; nothing past the end.
@@ -123,14 +124,13 @@ fn piece_named(
     relocated: bool,
     n: u32,
     section: &Shdr,
-    name: &[u8],
+    name: Name,
 ) -> Result<Option<PieceInfo>, NoMemory>
-    ensures { IfOk result (λ piece. piece ≡ piece_reported bytes.now relocated n section.now name.now) }
+    ensures { IfOk result (λ piece. piece ≡ piece_reported bytes.now relocated n section.now name) }
 {
-    let Some(key) = key_of(alloc, name, section.sh_type, section.sh_flags)? else {
+    let Some(key) = key_for(alloc, &name, section.sh_type, section.sh_flags)? else {
         return Ok(None);
     };
-    let name = Name::from_slice(alloc, name)?;
     let terminator = is_terminator(bytes, relocated, section, &key);
     Ok(Some(piece_with(n, section, name, terminator, key)))
 }
@@ -139,21 +139,21 @@ fn piece_named(
 #[tactic(auto, using(crate::proofs::PiecesReported::no_piece))]
 fn piece_at(
     alloc: Global,
-    bytes: &[u8],
+    file: &Bytes,
     header: &Ehdr,
     sections: &[Shdr],
     relocated: bool,
     n: u32,
     section: &Shdr,
 ) -> Result<Option<PieceInfo>, NoMemory>
-    ensures { IfOk result (λ piece. piece ≡ option_and_then (piece_reported bytes.now relocated n section.now) (section_name (elf_from bytes.now header.now sections.now []) n)) }
+    ensures { IfOk result (λ piece. piece ≡ option_and_then (piece_reported file.now relocated n section.now) (section_name (elf_from file.now header.now sections.now []) n)) }
 {
     if !may_be_piece(section.sh_type, section.sh_flags) {
         return Ok(None);
     }
-    match section_name(bytes, header, sections, n) {
+    match shared_section_name(file, header, sections, n)? {
         None => Ok(None),
-        Some(name) => piece_named(alloc, bytes, relocated, n, section, name),
+        Some(name) => piece_named(alloc, file.as_slice(), relocated, n, section, name),
     }
 }
 
@@ -197,20 +197,20 @@ fn put_piece(pieces: &mut PieceInfoList, piece: Option<PieceInfo>) -> Result<(),
 #[tactic(auto, using(crate::proofs::PiecesReported::piece_put))]
 pub fn pieces_of(
     alloc: Global,
-    bytes: &[u8],
+    file: &Bytes,
     header: &Ehdr,
     sections: &[Shdr],
 ) -> Result<PieceInfoList, NoMemory>
     requires few { length sections.now < 2 ^ 32 }
-    ensures { (symbols : List Sym) → IfOk result (λ pieces. pieces ≡ pieces_in (elf_from bytes.now header.now sections.now symbols)) }
+    ensures { (symbols : List Sym) → IfOk result (λ pieces. pieces ≡ pieces_in (elf_from file.now header.now sections.now symbols)) }
 {
-    let marks = needed_marks(alloc, bytes, sections)?;
+    let marks = needed_marks(alloc, file.as_slice(), sections)?;
     let mut pieces = PieceInfoList::new(alloc);
     for i in 1..sections.len() {
         let relocated = is_marked(&marks, i);
         let piece = piece_at(
             alloc,
-            bytes,
+            file,
             header,
             sections,
             relocated,

@@ -11,8 +11,8 @@ use lk_elf::numbers::{
 use lk_elf::{Ehdr, Shdr};
 use lk_model::layouts::{Class, SectionKey};
 use lk_obj_parts::{name_at, read_sections, section_name, sections_fault, table_fault};
-use lk_outsec::key_of;
-use lk_report::{InputFault, NoMemory};
+use lk_outsec::key_for;
+use lk_report::{InputFault, Name, NoMemory};
 use std::alloc::Global;
 
 /// The names of sections; the last has no closing zero.
@@ -369,7 +369,7 @@ const GOINGS: [Going; 9] = [
 #[test]
 fn pieces_go_to_output_sections(rt: HostRuntime) {
     for (name, code, flags, wanted, class) in GOINGS {
-        assert!(rt; goes_to(key_of(rt.alloc(), name, code, flags), wanted, class));
+        assert!(rt; goes_to(key_for(rt.alloc(), &Name::from_static(name), code, flags), wanted, class));
     }
 }
 
@@ -384,6 +384,6 @@ const NOT_LINKED: [(&'static [u8], u32, u64); 4] = [
 #[test]
 fn other_sections_go_nowhere(rt: HostRuntime) {
     for (name, code, flags) in NOT_LINKED {
-        assert!(rt; goes_nowhere(key_of(rt.alloc(), name, code, flags)));
+        assert!(rt; goes_nowhere(key_for(rt.alloc(), &Name::from_static(name), code, flags)));
     }
 }

@@ -9,7 +9,7 @@ use lk_elf::{Ehdr, Shdr, Sym};
 use lk_model::layouts::{Class, SectionKey};
 use lk_model::summaries::{Global as Symbol, Home, InputSummary, Kind, PieceInfo, PieceInfoList};
 use lk_obj_read::{asks_exec_stack, pieces_of, read_summary};
-use lk_report::{Name, NoMemory};
+use lk_report::{Bytes, Name, NoMemory};
 use std::alloc::Global;
 
 /// Four zeros, the two words of a group, and names from 12 on.
@@ -126,7 +126,8 @@ const TABLE: [Sym; 3] = [
 
 /// The summary of the object.
 fn summary(alloc: Global) -> Result<InputSummary, NoMemory> {
-    read_summary(alloc, &FILE, &HEADER, &sections(), &TABLE)
+    let file = Bytes::from_slice(alloc, &FILE)?;
+    read_summary(alloc, &file, &HEADER, &sections(), &TABLE)
 }
 
 /// A piece: its section, name, class, alignment and size; its output section has its own name.
@@ -168,7 +169,8 @@ fn pieces(alloc: Global) -> Result<PieceInfoList, NoMemory> {
 
 #[test]
 fn pieces_are_reported(rt: HostRuntime) -> Result<(), NoMemory> {
-    let reported = pieces_of(rt.alloc(), &FILE, &HEADER, &sections())?;
+    let file = Bytes::from_slice(rt.alloc(), &FILE)?;
+    let reported = pieces_of(rt.alloc(), &file, &HEADER, &sections())?;
     assert_eq!(rt; reported, pieces(rt.alloc())?);
     Ok(())
 }

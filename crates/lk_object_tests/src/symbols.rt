@@ -13,7 +13,7 @@ use lk_model::summaries::{Global as Symbol, GlobalList, Home, Local};
 use lk_obj_parts::{
     globals_of, local_of, read_symbols, symbol_table, symbol_table_fault, symbols_fault,
 };
-use lk_report::{InputFault, Name, NoMemory};
+use lk_report::{Bytes, InputFault, Name, NoMemory};
 use std::alloc::Global;
 
 /// The names of symbols; the last has no closing zero.
@@ -389,7 +389,7 @@ fn globals(alloc: Global) -> Result<GlobalList, NoMemory> {
     let bytes = file(&LOCAL, &GLOBAL);
     let sections = sections(&TABLE, &TEXT);
     let symbols = read_symbols(alloc, &bytes, &sections)?;
-    globals_of(alloc, &bytes, &sections, &symbols)
+    globals_of(alloc, &Bytes::from_slice(alloc, &bytes)?, &sections, &symbols)
 }
 
 /// What symbol 2 is.

@@ -91,35 +91,14 @@ pub fn is_piece(name: &[u8], sh_type: u32, sh_flags: u64) -> bool
     }
 }
 
-/// The output section of an input section whose name is these bytes (gABI "Sections", sh_type and
-/// sh_flags): as `key_for`, of a name that lies in a file.
+/// The output section that an input section goes to, by its name, its type (`sh_type`, here `code`) and its
+/// flags (`sh_flags`) (gABI "Sections"). There is none exactly where the section is not linked: where it is
+/// only read, where it is not loaded and is not SHT_PROGBITS, and where it is `.note.gnu.property` or
+/// `.note.GNU-stack`. No name is copied.
 ///
 /// # Errors
 /// Out of memory.
 #[tactic(auto, unfolding(lk_model::specs::Pieces::key_of))]
-pub fn key_of(
-    alloc: Global,
-    name: &[u8],
-    sh_type: u32,
-    sh_flags: u64,
-) -> Result<Option<SectionKey>, NoMemory>
-    ensures { IfOk result (λ key. key ≡ key_of name.now sh_type sh_flags) }
-{
-    if !is_piece(name, sh_type, sh_flags) {
-        return Ok(None);
-    }
-    let class = class_of(sh_type, sh_flags);
-    let name = Name::from_slice(alloc, output_name(class, name))?;
-    Ok(Some(SectionKey { name, class }))
-}
-
-/// The output section that an input section goes to, by its name, its type (`sh_type`, here `code`) and its
-/// flags (`sh_flags`) (gABI "Sections"). There is none exactly where the section is not linked: where it is
-/// only read, where it is not loaded and is not SHT_PROGBITS, and where it is `.note.gnu.property` or
-/// `.note.GNU-stack`.
-///
-/// # Errors
-/// Out of memory.
 pub fn key_for(
     alloc: Global,
     name: &Name,
@@ -128,5 +107,13 @@ pub fn key_for(
 ) -> Result<Option<SectionKey>, NoMemory>
     ensures { IfOk result (λ key. key ≡ key_of name.now code flags) }
 {
-    key_of(alloc, name.as_slice(), code, flags)
+    if !is_piece(name.as_slice(), code, flags) {
+        return Ok(None);
+    }
+    let class = class_of(code, flags);
+    let name = match output_name(class, name.as_slice()) {
+        Some(fixed) => Name::from_static(fixed),
+        None => name.copy(alloc)?,
+    };
+    Ok(Some(SectionKey { name, class }))
 }

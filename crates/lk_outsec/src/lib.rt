@@ -2,7 +2,7 @@
 //! in which output sections are in the image (gABI "Sections", "Special Sections").
 //!
 //! The name, the type and the flags of an input section come in; out goes the key of its output section
-//! (`key_for`, `key_of`), and whether it has one at all (`is_piece`, `may_be_piece`). Keys come in; out go
+//! (`key_for`), and whether it has one at all (`is_piece`, `may_be_piece`). Keys come in; out go
 //! whether pieces are anywhere in the section (`is_patched`), what fills its holes (`fill_kind`), and all keys
 //! in the order of the image (`in_order`).
 //!
@@ -19,7 +19,7 @@ mod output_names;
 mod ranks;
 mod reserved_names;
 
-pub use input_sections::{has_flag, is_piece, key_for, key_of, may_be_piece};
+pub use input_sections::{has_flag, is_piece, key_for, may_be_piece};
 pub use kinds::{fill_kind, is_patched};
 pub use orders::in_order;
 pub use reserved_names::{is_table_name, is_tail_name};

@@ -1,6 +1,6 @@
 //! The names of output sections (this project's own rule; the names are those of gABI "Special Sections").
 
-ghost use Rattle.std.specs.Prelude.{◌≡◌, find};
+ghost use Rattle.std.specs.Prelude.{◌≡◌, find, unwrap_or};
 ghost use Rattle.std.specs.Option.{option_copied};
 ghost use Rattle.lk_model.specs.Pieces.{common_name, goes_under, output_name};
 ghost use Rattle.lk_outsec.specs.CommonNames.{array_names, first_names, older_names};
@@ -69,32 +69,31 @@ fn older_name(name: &[u8]) -> Option<&'static [u8]>
     None
 }
 
-/// The name of the output section of a loaded section that is not thread-local.
+/// The name of the output section of a loaded section that is not thread-local, where it is one of a few; none
+/// where it is the input section's own.
 #[tactic(auto, using(crate::proofs::NamesUnder::common_reported))]
-fn common_name(name: &[u8]) -> &[u8]
-    ensures { result.now ≡ common_name name.now }
+fn common_name(name: &[u8]) -> Option<&'static [u8]>
+    ensures { unwrap_or (option_copied result) name.now ≡ common_name name.now }
 {
     if let Some(base) = first_name(name) {
-        return base;
+        return Some(base);
     }
     if let Some(base) = array_name(name) {
-        return base;
+        return Some(base);
     }
-    match older_name(name) {
-        Some(base) => base,
-        None => name,
-    }
+    older_name(name)
 }
 
-/// The name of the output section, by class and the input section's name.
+/// The name of the output section, by class and the input section's name, where it is one of a few; none where it
+/// is the input section's own.
 #[tactic(auto, unfolding(lk_model::specs::Pieces::output_name))]
-pub(crate) fn output_name(class: Class, name: &[u8]) -> &[u8]
-    ensures { result.now ≡ output_name class name.now }
+pub(crate) fn output_name(class: Class, name: &[u8]) -> Option<&'static [u8]>
+    ensures { unwrap_or (option_copied result) name.now ≡ output_name class name.now }
 {
     match class {
-        Class::Tdata => b".tdata",
-        Class::Tbss => b".tbss",
-        Class::N => name,
+        Class::Tdata => Some(b".tdata"),
+        Class::Tbss => Some(b".tbss"),
+        Class::N => None,
         Class::R | Class::X | Class::W | Class::WX | Class::Bss => common_name(name),
     }
 }

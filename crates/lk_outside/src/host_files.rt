@@ -82,7 +82,10 @@ fn bytes_at(rt: &HostRuntime, path: &Name) -> io::Result<Bytes> {
     let room = file.metadata()?.len().saturating_add(1);
     let mut bytes = Vec::with_capacity(rt.alloc(), room as usize)?;
     file.read_to_end(&mut bytes)?;
-    Ok(Bytes::from_vec(bytes))
+    match Bytes::from_vec(bytes) {
+        Ok(bytes) => Ok(bytes),
+        Err(_) => Err(io::Error::from(ErrorKind::OutOfMemory)),
+    }
 }
 
 impl Files for HostFiles {

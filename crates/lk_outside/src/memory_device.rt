@@ -1,6 +1,6 @@
 //! The output file kept in memory.
 
-ghost use Rattle.std.specs.Prelude.{◌≡◌, ◌≤◌, ◌+◌, ◌++◌, ◌∷◌, [], None, Some, OnOk, OnErr, length as list_length};
+ghost use Rattle.std.specs.Prelude.{◌≡◌, ◌≤◌, ◌+◌, ◌++◌, ◌∷◌, [], None, Some, IfOk, OnOk, OnErr, length as list_length};
 ghost use Rattle.lk_outside.specs.Disk.{RangeLiesIn, IsAtMostEnd, LengthGives, ReadAtGives, WriteAtGives, CutGives, SyncGives, patched};
 ghost use Rattle.lk_outside.specs.DeviceInMemory.{disk_of, OnlyLooks, LengthInMemory, ReadAtInMemory, WriteAtInMemory, CutInMemory};
 
@@ -27,18 +27,24 @@ impl Model for MemoryDevice {
 }
 
 impl MemoryDevice {
-    /// A file of these bytes, of which no range was written; no call is to fail.
-    pub fn of(alloc: Global, bytes: Bytes) -> Self
-        ensures { result ≡ record {
-          bytes = bytes;
+    /// A file of a copy of these bytes, which may be shared; no range of it was written, and no call is to fail.
+    ///
+    /// # Errors
+    /// Out of memory.
+    pub fn of(alloc: Global, bytes: &Bytes) -> Result<Self, NoMemory>
+        ensures { IfOk result (λ device. device ≡ record {
+          bytes = bytes.now;
           written = [];
           calls = record { made = 0; failing = None; faults = 0 };
-        } }
+        }) }
     {
-        MemoryDevice {
-            bytes: bytes.into_vec(),
-            written: Vec::new(alloc),
-            calls: Calls::none(),
+        match Vec::from_slice(alloc, bytes.as_slice()) {
+            Ok(bytes) => Ok(MemoryDevice {
+                bytes,
+                written: Vec::new(alloc),
+                calls: Calls::none(),
+            }),
+            Err(_) => Err(NoMemory),
         }
     }
 

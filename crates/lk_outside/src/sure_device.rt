@@ -1,12 +1,12 @@
 //! The output file kept in memory, which fails by out of memory alone.
 
-ghost use Rattle.std.specs.Prelude.{◌≡◌, ◌≤◌, ◌+◌, [], length as list_length};
+ghost use Rattle.std.specs.Prelude.{◌≡◌, ◌≤◌, ◌+◌, [], IfOk, length as list_length};
 ghost use Rattle.lk_outside.specs.Disk.{LengthGives, ReadAtGives, WriteAtGives, CutGives, SyncGives};
 ghost use Rattle.lk_outside.specs.DeviceInMemory.{sure_disk_of, SureLength, SureReadAt, SureWriteAt, SureCut, SureSync};
 
 use crate::devices::{Device, LengthAnswer};
 use crate::memory_device::MemoryDevice;
-use lk_report::{Answer, Bytes};
+use lk_report::{Answer, Bytes, NoMemory};
 use std::alloc::Global;
 use std::marker::Model;
 
@@ -33,13 +33,16 @@ impl Model for SureDevice {
 }
 
 impl SureDevice {
-    /// A file of these bytes, of which no range was written.
-    pub fn of(alloc: Global, bytes: Bytes) -> Self
-        ensures { result ≡ record { bytes = bytes; written = []; faults = 0 } }
+    /// A file of a copy of these bytes, of which no range was written.
+    ///
+    /// # Errors
+    /// Out of memory.
+    pub fn of(alloc: Global, bytes: &Bytes) -> Result<Self, NoMemory>
+        ensures { IfOk result (λ device. device ≡ record { bytes = bytes.now; written = []; faults = 0 }) }
     {
-        SureDevice {
-            device: MemoryDevice::of(alloc, bytes),
-        }
+        Ok(SureDevice {
+            device: MemoryDevice::of(alloc, bytes)?,
+        })
     }
 
     /// The file's bytes.

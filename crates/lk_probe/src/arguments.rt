@@ -30,8 +30,8 @@ pub fn what_is_asked(alloc: Global, mut all: Args) -> Result<Option<Asked>, NoMe
         return Ok(None);
     };
     match word.as_str() {
-        "read" => Ok(asked_file(all)),
-        "load" => Ok(asked_image(all)),
+        "read" => asked_file(all),
+        "load" => asked_image(all),
         "resolve" => Ok(Some(Asked::Resolve(words_of(alloc, all)?))),
         "layout" => Ok(Some(Asked::Layout(words_of(alloc, all)?))),
         _ => Ok(None),
@@ -39,29 +39,33 @@ pub fn what_is_asked(alloc: Global, mut all: Args) -> Result<Option<Asked>, NoMe
 }
 
 /// The file that is named, where exactly one argument is left.
-fn only_file(mut all: Args) -> Option<Name>
-    ensures { result ≡ file_in (map string_bytes (into_iter_items all)) }
+fn only_file(mut all: Args) -> Result<Option<Name>, NoMemory>
+    ensures { IfOk result (λ file. file ≡ file_in (map string_bytes (into_iter_items all))) }
 {
     match all.next() {
-        Some(file) if all.next().is_none() => Some(Name::from_vec(file.into_bytes())),
-        _ => None,
+        Some(file) if all.next().is_none() => Ok(Some(Name::from_vec(file.into_bytes())?)),
+        _ => Ok(None),
     }
 }
 
 /// The file that is to be read, where exactly one argument is left, which names it.
-fn asked_file(all: Args) -> Option<Asked>
-    ensures { result ≡ file_asked (map string_bytes (into_iter_items all)) }
+fn asked_file(all: Args) -> Result<Option<Asked>, NoMemory>
+    ensures { IfOk result (λ asked. asked ≡ file_asked (map string_bytes (into_iter_items all))) }
 {
-    let path = only_file(all)?;
-    Some(Asked::Read(path))
+    Ok(match only_file(all)? {
+        None => None,
+        Some(path) => Some(Asked::Read(path)),
+    })
 }
 
 /// The file that is to be loaded, where exactly one argument is left, which names it.
-fn asked_image(all: Args) -> Option<Asked>
-    ensures { result ≡ image_asked (map string_bytes (into_iter_items all)) }
+fn asked_image(all: Args) -> Result<Option<Asked>, NoMemory>
+    ensures { IfOk result (λ asked. asked ≡ image_asked (map string_bytes (into_iter_items all))) }
 {
-    let path = only_file(all)?;
-    Some(Asked::Load(path))
+    Ok(match only_file(all)? {
+        None => None,
+        Some(path) => Some(Asked::Load(path)),
+    })
 }
 
 /// The arguments that are left.
@@ -70,7 +74,7 @@ fn words_of(alloc: Global, all: Args) -> Result<NameList, NoMemory>
 {
     let mut words = List::new(alloc);
     for argument in all {
-        words.push(Name::from_vec(argument.into_bytes()))?;
+        words.push(Name::from_vec(argument.into_bytes())?)?;
     }
     Ok(words)
 }

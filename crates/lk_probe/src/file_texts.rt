@@ -24,7 +24,7 @@ fn object_text(alloc: Global, sections: usize, symbols: usize) -> Result<Bytes, 
     put(&mut text, b" sections, ")?;
     put_number(alloc, &mut text, symbols)?;
     put(&mut text, b" symbols\n")?;
-    Ok(Bytes::from_vec(text))
+    Bytes::from_vec(text)
 }
 
 /// The same, or out of memory as a status.

@@ -85,7 +85,7 @@ fn loaded_text(alloc: Global, loaded: &Loaded) -> Result<Bytes, NoMemory>
     put(&mut text, b" symbols, ")?;
     put_number(alloc, &mut text, loaded.relocations.as_slice().len())?;
     put(&mut text, b" relocations\n")?;
-    Ok(Bytes::from_vec(text))
+    Bytes::from_vec(text)
 }
 
 /// A text.
@@ -94,7 +94,7 @@ fn text_of(alloc: Global, bytes: &[u8]) -> Result<Bytes, NoMemory>
 {
     let mut text = Vec::new(alloc);
     put(&mut text, bytes)?;
-    Ok(Bytes::from_vec(text))
+    Bytes::from_vec(text)
 }
 
 /// What is said of a program header that is refused, by its number.
@@ -105,7 +105,7 @@ fn numbered_text(alloc: Global, header: u32, why: &[u8]) -> Result<Bytes, NoMemo
     put(&mut text, b"refused: program header ")?;
     put_number(alloc, &mut text, header as usize)?;
     put(&mut text, why)?;
-    Ok(Bytes::from_vec(text))
+    Bytes::from_vec(text)
 }
 
 /// What is said of what a loader makes of an image, or why it takes none.

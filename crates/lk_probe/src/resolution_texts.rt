@@ -61,7 +61,7 @@ fn text_of(alloc: Global, resolution: &Resolution) -> Result<Bytes, NoMemory>
     put(&mut text, b" inputs, ")?;
     put_number(alloc, &mut text, resolution.names().len() as usize)?;
     put(&mut text, b" names\n")?;
-    Ok(Bytes::from_vec(text))
+    Bytes::from_vec(text)
 }
 
 /// What is said of the words of a link, or the status that is reported in its place.

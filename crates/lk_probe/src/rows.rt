@@ -86,7 +86,7 @@ fn text_of(alloc: Global, placement: &Placement) -> Result<Bytes, NoMemory>
     put(&mut text, b" sections, ")?;
     put_number(alloc, &mut text, placement.pieces.as_slice().len())?;
     put(&mut text, b" pieces\n")?;
-    Ok(Bytes::from_vec(text))
+    Bytes::from_vec(text)
 }
 
 /// What is said of where a link of these words puts everything, or the status that is reported in its place.

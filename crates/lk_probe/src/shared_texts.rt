@@ -66,5 +66,5 @@ pub fn shared_text(alloc: Global, facts: &SharedFacts) -> Result<Bytes, NoMemory
     put_name(&mut text, b"shared object: ", &facts.soname)?;
     put_needs(&mut text, facts.needs.as_slice())?;
     put_counts(alloc, &mut text, &facts.symbols)?;
-    Ok(Bytes::from_vec(text))
+    Bytes::from_vec(text)
 }

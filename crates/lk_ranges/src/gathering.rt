@@ -110,6 +110,6 @@ impl Ranges {
             return Err(NoMemory);
         };
         write_all(bytes.as_mut_slice(), self.list.as_slice());
-        Ok(Bytes::from_vec(bytes))
+        Bytes::from_vec(bytes)
     }
 }

@@ -1,50 +1,56 @@
 //! Whole files and parts of them, as bytes. Contracts see `Bytes` as the list of its bytes.
 
-ghost use Rattle.std.specs.Prelude.{◌≡◌, ℕ, List, IfOk};
+ghost use Rattle.std.specs.Prelude.{◌≡◌, ◌≤◌, ℕ, List, [], length, slice_range, IfOk};
 ghost use Rattle.std.specs.Str.{bytes_eq};
 ghost use Rattle.std.specs.Cmp.{partial_equiv_from_equiv};
 ghost use Rattle.std.specs.Cmp.Lexicographic.{nat_list_eq_equiv};
 
 use crate::memory::{NoMemory, TryCopy};
+use crate::names::Name;
+use bytes::Bytes as Shared;
 use std::alloc::Global;
 use std::marker::Model;
 
 /// The bytes of a file, or of a part of one. Any bytes are `Bytes`.
 #[derive(Drop, Debug)]
 pub struct Bytes {
-    bytes: Vec<u8>,
+    bytes: Shared,
 }
 
 impl Model for Bytes {
     ghost Value = { List ℕ };
 
-    ghost view = { λ b. b.bytes.items };
+    ghost view = { λ b. b.bytes };
 }
 
 impl Bytes {
-    /// The value of these bytes.
-    pub fn from_vec(bytes: Vec<u8>) -> Self
-        ensures { result ≡ bytes.items }
+    /// The value of no bytes. Takes no memory.
+    pub fn empty() -> Self
+        ensures { result ≡ [] }
     {
-        Bytes { bytes }
+        Bytes {
+            bytes: Shared::new(),
+        }
+    }
+
+    /// The value of these bytes, which are not copied.
+    pub fn from_vec(bytes: Vec<u8>) -> Result<Self, NoMemory>
+        ensures { IfOk result (λ b. b ≡ bytes.items) }
+    {
+        match Shared::from_vec(bytes) {
+            Ok(bytes) => Ok(Bytes { bytes }),
+            Err(_) => Err(NoMemory),
+        }
     }
 
     /// The value of a copy of these bytes.
     pub fn from_slice(alloc: Global, bytes: &[u8]) -> Result<Self, NoMemory>
         ensures { IfOk result (λ b. b ≡ bytes.now) }
     {
-        match Vec::from_slice(alloc, bytes) {
+        match Shared::copy_from_slice(alloc, bytes) {
             Ok(bytes) => Ok(Bytes { bytes }),
             Err(_) => Err(NoMemory),
         }
-    }
-
-    /// The bytes, given back without taking memory.
-    pub fn into_vec(self) -> Vec<u8>
-        ensures { result.items ≡ self }
-    {
-        let Bytes { bytes } = self;
-        bytes
     }
 
     /// The bytes.
@@ -54,11 +60,26 @@ impl Bytes {
         self.bytes.as_slice()
     }
 
-    /// An equal value.
-    pub fn copy(&self, alloc: Global) -> Result<Self, NoMemory>
+    /// An equal value, which shares its bytes with this one: none is copied.
+    pub fn copy(&self, _alloc: Global) -> Result<Self, NoMemory>
         ensures { IfOk result (λ b. b ≡ self.now) }
     {
-        Bytes::from_slice(alloc, self.as_slice())
+        match self.bytes.clone() {
+            Ok(bytes) => Ok(Bytes { bytes }),
+            Err(_) => Err(NoMemory),
+        }
+    }
+
+    /// The bytes from `start` to before `end` as a name, which shares them: none is copied.
+    pub fn name(&self, start: usize, end: usize) -> Result<Name, NoMemory>
+        requires order { start ≤ end }
+        requires inside { end ≤ length self.now }
+        ensures { IfOk result (λ n. n ≡ slice_range self.now start end) }
+    {
+        match self.bytes.slice(start..end) {
+            Ok(bytes) => Ok(Name { bytes }),
+            Err(_) => Err(NoMemory),
+        }
     }
 }
 
@@ -74,7 +95,7 @@ impl PartialEq for Bytes {
     ghost laws = { partial_equiv_from_equiv nat_list_eq_equiv };
 
     fn eq(&self, other: &Self) -> bool {
-        self.bytes.as_slice() == other.bytes.as_slice()
+        self.as_slice() == other.as_slice()
     }
 }
 

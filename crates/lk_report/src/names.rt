@@ -1,7 +1,7 @@
 //! Texts as bytes: paths, symbol names, section names, and whole files. Contracts see both types as
 //! the list of their bytes, so two of them are equal exactly where their bytes are.
 
-ghost use Rattle.std.specs.Prelude.{◌≡◌, ℕ, List, IfOk};
+ghost use Rattle.std.specs.Prelude.{◌≡◌, ℕ, List, [], IfOk};
 ghost use Rattle.std.specs.Str.{bytes_eq};
 ghost use Rattle.std.specs.Cmp.{partial_equiv_from_equiv};
 ghost use Rattle.std.specs.Cmp.Lexicographic.{nat_list_eq_equiv};
@@ -10,6 +10,7 @@ ghost use Rattle.std.specs.Hash as fed;
 ghost use Rattle.std.proofs.Common.{rules};
 
 use crate::memory::{NoMemory, TryCopy};
+use bytes::Bytes as Shared;
 use std::alloc::Global;
 use std::hash::{Hash, Hasher};
 use std::marker::Model;
@@ -18,39 +19,52 @@ use std::marker::Model;
 /// path or symbol is checked where they are used.
 #[derive(Drop, Debug)]
 pub struct Name {
-    bytes: Vec<u8>,
+    pub(crate) bytes: Shared,
 }
 
 impl Model for Name {
     ghost Value = { List ℕ };
 
-    ghost view = { λ n. n.bytes.items };
+    ghost view = { λ n. n.bytes };
 }
 
 impl Name {
-    /// The name of these bytes.
-    pub fn from_vec(bytes: Vec<u8>) -> Self
-        ensures { result ≡ bytes.items }
+    /// The name of no bytes. Takes no memory.
+    pub fn empty() -> Self
+        ensures { result ≡ [] }
     {
-        Name { bytes }
+        Name {
+            bytes: Shared::new(),
+        }
+    }
+
+    /// The name of bytes that are there for good. Takes no memory.
+    pub fn from_static(bytes: &'static [u8]) -> Self
+        ensures { result ≡ bytes.now }
+    {
+        Name {
+            bytes: Shared::from_static(bytes),
+        }
+    }
+
+    /// The name of these bytes, which are not copied.
+    pub fn from_vec(bytes: Vec<u8>) -> Result<Self, NoMemory>
+        ensures { IfOk result (λ n. n ≡ bytes.items) }
+    {
+        match Shared::from_vec(bytes) {
+            Ok(bytes) => Ok(Name { bytes }),
+            Err(_) => Err(NoMemory),
+        }
     }
 
     /// The name of a copy of these bytes.
     pub fn from_slice(alloc: Global, bytes: &[u8]) -> Result<Self, NoMemory>
         ensures { IfOk result (λ n. n ≡ bytes.now) }
     {
-        match Vec::from_slice(alloc, bytes) {
+        match Shared::copy_from_slice(alloc, bytes) {
             Ok(bytes) => Ok(Name { bytes }),
             Err(_) => Err(NoMemory),
         }
-    }
-
-    /// The bytes, given back without taking memory.
-    pub fn into_vec(self) -> Vec<u8>
-        ensures { result.items ≡ self }
-    {
-        let Name { bytes } = self;
-        bytes
     }
 
     /// The bytes.
@@ -60,11 +74,14 @@ impl Name {
         self.bytes.as_slice()
     }
 
-    /// An equal name.
-    pub fn copy(&self, alloc: Global) -> Result<Self, NoMemory>
+    /// An equal name, which shares its bytes with this one: none is copied.
+    pub fn copy(&self, _alloc: Global) -> Result<Self, NoMemory>
         ensures { IfOk result (λ n. n ≡ self.now) }
     {
-        Name::from_slice(alloc, self.as_slice())
+        match self.bytes.clone() {
+            Ok(bytes) => Ok(Name { bytes }),
+            Err(_) => Err(NoMemory),
+        }
     }
 }
 
@@ -80,7 +97,7 @@ impl PartialEq for Name {
     ghost laws = { partial_equiv_from_equiv nat_list_eq_equiv };
 
     fn eq(&self, other: &Self) -> bool {
-        self.bytes.as_slice() == other.bytes.as_slice()
+        self.as_slice() == other.as_slice()
     }
 }
 

@@ -24,7 +24,7 @@ fn copy_path(alloc: Global, paths: &[Name], input: u32) -> Result<Name, NoMemory
     if at < paths.len() {
         paths[at].copy(alloc)
     } else {
-        Ok(Name::from_vec(Vec::new(alloc)))
+        Ok(Name::empty())
     }
 }
 

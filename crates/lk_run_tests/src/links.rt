@@ -167,7 +167,7 @@ fn two_words(alloc: Global) -> Result<NameList, Fail> {
 fn an_outside_that_does_not_fail_serves_too(rt: HostRuntime) -> Result<(), Fail> {
     let words = two_words(rt.alloc())?;
     let mut files = sure_objects(rt.alloc())?;
-    let mut out = SureDevice::of(rt.alloc(), Bytes::from_slice(rt.alloc(), b"old")?);
+    let mut out = SureDevice::of(rt.alloc(), &Bytes::from_slice(rt.alloc(), b"old")?)?;
     let mut says = SureSink::new(rt.alloc());
     let status = run_alone(
         rt.alloc(),

@@ -17,7 +17,7 @@ const CODE: &[u8] = b"0123456789abcdef";
 fn file_of(alloc: Global, length: usize, byte: u8) -> Result<MemoryDevice, Fail> {
     let mut bytes = Vec::new(alloc);
     bytes.resize(length, byte)?;
-    Ok(MemoryDevice::of(alloc, Bytes::from_vec(bytes)))
+    Ok(MemoryDevice::of(alloc, &Bytes::from_vec(bytes)?)?)
 }
 
 /// What the link of an object without code does onto a file.

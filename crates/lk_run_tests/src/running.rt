@@ -53,7 +53,7 @@ pub fn words_of(alloc: Global, line: &str) -> Result<NameList, Fail> {
 
 /// The output before a link, at whose call of this number, from 1, it fails.
 pub fn old_output(alloc: Global, failing: Option<u64>) -> Result<MemoryDevice, Fail> {
-    let mut out = MemoryDevice::of(alloc, Bytes::from_slice(alloc, OLD)?);
+    let mut out = MemoryDevice::of(alloc, &Bytes::from_slice(alloc, OLD)?)?;
     if let Some(n) = failing {
         out.fail_call(n);
     }

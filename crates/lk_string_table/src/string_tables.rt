@@ -124,7 +124,7 @@ impl<'a> StringTable<'a> {
             return Err(NoMemory);
         };
         self.put(&mut out)?;
-        Ok(Bytes::from_vec(out))
+        Bytes::from_vec(out)
     }
 
     /// Puts the table's bytes at the end.

@@ -38,7 +38,7 @@ fn pieces(alloc: Global) -> Result<PieceInfoList, NoMemory> {
 fn object_of(alloc: Global, pieces: PieceInfoList, globals: GlobalList) -> InputSummary {
     InputSummary {
         kind: Kind::Object,
-        soname: Name::from_vec(Vec::new(alloc)),
+        soname: Name::empty(),
         exec_stack: false,
         pieces,
         globals,

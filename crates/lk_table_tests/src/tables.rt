@@ -103,7 +103,7 @@ fn needs(alloc: Global) -> Result<Needs, NoMemory> {
 fn options(alloc: Global) -> Result<OptionRecord, NoMemory> {
     Ok(OptionRecord {
         entry: Name::from_slice(alloc, b"_start")?,
-        interp: Name::from_vec(Vec::new(alloc)),
+        interp: Name::empty(),
         runpath: Name::from_slice(alloc, b"/lib")?,
         patch: 0,
         export_dynamic: false,
