@@ -202,7 +202,7 @@ impl Maker {
         put_words(&mut file, &file_header(at, count))?;
         file.extend_from_slice(self.bodies.as_slice())?;
         file.extend_from_slice(self.headers.as_slice())?;
-        Bytes::from_vec(file)
+        Ok(Bytes::from_vec(file)?)
     }
 }
 
@@ -317,14 +317,14 @@ pub fn changed(alloc: Global, file: &Bytes, at: usize, byte: u8) -> Result<Bytes
     if at < bytes.len() {
         bytes[at] = byte;
     }
-    Bytes::from_vec(bytes)
+    Ok(Bytes::from_vec(bytes)?)
 }
 
 /// The file without its last byte.
 pub fn cut(alloc: Global, file: &Bytes) -> Result<Bytes, Fail> {
     let mut bytes = Vec::from_slice(alloc, file.as_slice())?;
     let _last = bytes.pop();
-    Bytes::from_vec(bytes)
+    Ok(Bytes::from_vec(bytes)?)
 }
 
 /// An object of these parts, symbols, and relocations of part 1.
