@@ -1,6 +1,6 @@
 //! The host's input files: a thin edge over std's files, which is trusted and tested alone.
 
-ghost use Rattle.std.specs.Prelude.{◌≡◌, None};
+ghost use Rattle.std.specs.Prelude.{◌≡◌, ◌≤◌, None, length, IfOk};
 ghost use Rattle.lk_outside.specs.Host.{unknown_state};
 
 use crate::files::{Files, ReadAnswer, StatAnswer};
@@ -75,13 +75,28 @@ fn stamp_of(metadata: &Metadata) -> Option<Stamp> {
     })
 }
 
-/// All bytes of a file. There is room for one byte more than its length, so that its end is found without
-/// moving the bytes.
+/// Reads into a buffer once: the number of bytes, 0 at the end of the file and where a signal came first.
+fn read_once(file: &mut File, into: &mut [u8]) -> io::Result<usize>
+    ensures { IfOk result (λ count. count ≤ length into.new) }
+{
+    match file.read(into) {
+        Err(error) if error.kind() == ErrorKind::Interrupted => Ok(0),
+        answer => answer,
+    }
+}
+
+/// All bytes of a file. There is room for one byte more than its length: where one read gives as many bytes as the
+/// file is long, and not that one, the end of the file was met, and nothing is asked again.
 fn bytes_at(rt: &HostRuntime, path: &Name) -> io::Result<Bytes> {
     let mut file = File::open(rt, path_text(path)?)?;
-    let room = file.metadata()?.len().saturating_add(1);
-    let mut bytes = Vec::with_capacity(rt.alloc(), room as usize)?;
-    file.read_to_end(&mut bytes)?;
+    let length = file.metadata()?.len();
+    let mut bytes = Vec::new(rt.alloc());
+    bytes.resize(length.saturating_add(1) as usize, 0)?;
+    let count = read_once(&mut file, &mut bytes)?;
+    bytes.truncate(count);
+    if count == 0 || count as u64 != length {
+        file.read_to_end(&mut bytes)?;
+    }
     match Bytes::from_vec(bytes) {
         Ok(bytes) => Ok(bytes),
         Err(_) => Err(io::Error::from(ErrorKind::OutOfMemory)),
