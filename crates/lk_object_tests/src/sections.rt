@@ -369,7 +369,13 @@ const GOINGS: [Going; 9] = [
 #[test]
 fn pieces_go_to_output_sections(rt: HostRuntime) {
     for (name, code, flags, wanted, class) in GOINGS {
-        assert!(rt; goes_to(key_for(rt.alloc(), &Name::from_static(name), code, flags), wanted, class));
+        assert!(rt;
+            goes_to(
+                key_for(rt.alloc(), &Name::from_static(name), code, flags),
+                wanted,
+                class
+            )
+        );
     }
 }
 

@@ -389,7 +389,12 @@ fn globals(alloc: Global) -> Result<GlobalList, NoMemory> {
     let bytes = file(&LOCAL, &GLOBAL);
     let sections = sections(&TABLE, &TEXT);
     let symbols = read_symbols(alloc, &bytes, &sections)?;
-    globals_of(alloc, &Bytes::from_slice(alloc, &bytes)?, &sections, &symbols)
+    globals_of(
+        alloc,
+        &Bytes::from_slice(alloc, &bytes)?,
+        &sections,
+        &symbols,
+    )
 }
 
 /// What symbol 2 is.
