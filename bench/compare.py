@@ -1,7 +1,7 @@
 #!/usr/bin/env python3
 """Links programs of many objects with lk_ld and with the linkers that are installed, and prints what each link costs.
 
-    bench/compare.py                          # small objects, 2,000 and 4,000, and 300 large ones, with all linkers
+    bench/compare.py                          # small and large objects, many names, many sections, with all linkers
     bench/compare.py --install                # installs GNU ld, gold, lld and mold first where they are missing (apt-get)
     bench/compare.py --rounds 3 small:500     # one program of 500 small objects, three rounds
     bench/compare.py --linker PATH --folder DIR --skip ld.bfd large:300
@@ -13,7 +13,7 @@ import argparse, collections, os, platform, random, shutil, statistics, subproce
 
 sys.dont_write_bytecode = True     # a run leaves the checkout as it was
 from elf import Run, apart, timed
-from programs import STATUS, make_large, make_small
+from programs import STATUS, make_large, make_names, make_sections, make_small
 
 HERE = os.path.dirname(os.path.abspath(__file__))
 OURS, GOLD, LLD = 'lk_ld', 'gold', 'lld, 1 thread'
@@ -120,7 +120,7 @@ class Case:
     def __init__(self, what, folder):
         kind, _, number = what.partition(':')
         self.what, self.kind, self.number, self.folder = what, kind, int(number), os.path.join(folder, what.replace(':', ''))
-        make = {'small': make_small, 'large': make_large}[kind]
+        make = {'small': make_small, 'large': make_large, 'names': make_names, 'sections': make_sections}[kind]
         os.mkdir(self.folder)
         apart(make, self.folder, self.number)
         self.files = ['%s%d.o' % (kind[0], i) for i in range(self.number)]
@@ -170,10 +170,6 @@ class Case:
         """The median over the rounds of the ratio within a round."""
         return median_ratio(self.figures(name, field), self.figures(other, field))
 
-    def unsynced(self):
-        """Seconds of our links by the clock, without the sync that they have."""
-        return [ours - sync for ours, sync in zip(self.figures(OURS, 'seconds'), self.figures(SYNC, 'seconds'))]
-
     def table(self, linkers):
         print('\n%s: %d inputs, %.1f MB' % (self.what, self.number, self.bytes / 1e6))
         print('| %-17s | %9s | %7s | %9s | %7s | %9s | %9s | %10s |' % (
@@ -199,26 +195,28 @@ def bar(what, figure, most, must=True):
     return good or not must
 
 
+# For each program: what it is, and the processor time to gold's that is the bar, and the goal.
+ASKED = {'small:2000': ('2,000 small objects', 0.55, 0.4), 'large:300': ('300 large objects', 1.0, 0.7),
+         'names:4000': ('1,000,000 names', 0.8, 0.45), 'sections:2000': ('200,000 sections', 1.2, 0.7)}
+
+
 def bars(cases):
     """What is asked of our link: bars, which must be met, and goals."""
     good = True
-    by = {case.what: case for case in cases}
+    by = {case.what: case for case in cases if OURS in case.runs}
+    for what, (title, most, goal) in ASKED.items():
+        case = by.get(what)
+        if case and GOLD in case.runs:
+            figure = case.ratio(OURS, GOLD, 'processor')
+            good &= bar('%s, processor time to gold' % title, figure, most)
+            good &= bar('%s, peak memory to gold' % title, case.ratio(OURS, GOLD, 'peak'), 1.0)
+            bar('%s, processor time to gold' % title, figure, goal, must=False)
+        if case and LLD in case.runs:
+            bar('%s, processor time to lld on one thread' % title, case.ratio(OURS, LLD, 'processor'), 1.0, must=False)
     small, double = by.get('small:2000'), by.get('small:4000')
-    if small and {OURS, GOLD} <= small.runs.keys():
-        good &= bar('2,000 small objects, processor time to gold', small.ratio(OURS, GOLD, 'processor'), 1.0)
-        clock = median_ratio(small.unsynced(), small.figures(GOLD, 'seconds'))
-        good &= bar('2,000 small objects, clock without the sync to gold', clock, 1.0)
-        bar('2,000 small objects, processor time to gold', small.ratio(OURS, GOLD, 'processor'), 0.6, must=False)
-        bar('2,000 small objects, peak memory to gold', small.ratio(OURS, GOLD, 'peak'), 1.0, must=False)
-    if small and double and OURS in small.runs and OURS in double.runs:
+    if small and double:
         figure = median_ratio(double.figures(OURS, 'processor'), small.figures(OURS, 'processor'))
-        good &= bar('4,000 small objects, processor time to 2,000', figure, 2.2)
-    for case in cases:
-        if case.kind == 'large' and OURS in case.runs:
-            if LLD in case.runs:
-                bar('large objects, processor time to lld on one thread', case.ratio(OURS, LLD, 'processor'), 1.0, must=False)
-            figure = 1024 * case.median(OURS, 'peak') / (case.bytes + case.images[OURS])
-            bar('large objects, peak memory to inputs and image', figure, 3.0, must=False)
+        good &= bar('4,000 small objects, processor time to 2,000', figure, 2.15)
     return good
 
 
@@ -238,7 +236,7 @@ def main():
     parser.add_argument('--folder', help='where inputs and images stand, in a folder of their own (the temporary one)')
     parser.add_argument('--skip', action='append', default=[], metavar='PROGRAM')
     parser.add_argument('--install', action='store_true')
-    parser.add_argument('cases', nargs='*', default=['small:2000', 'small:4000', 'large:300'], metavar='KIND:COUNT')
+    parser.add_argument('cases', nargs='*', default=['small:2000', 'small:4000', 'large:300', 'names:4000', 'sections:2000'], metavar='KIND:COUNT')
     words = parser.parse_args()
     if words.install:
         install()

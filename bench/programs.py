@@ -1,4 +1,4 @@
-"""Programs of many objects for `compare.py`: many small objects, and fewer large ones.
+"""Programs of many objects for `compare.py`: many small objects, fewer large ones, many names, many sections.
 
 Each is a real program. Its functions call one another, object by object to the last, and each adds one to a count;
 `_start` ends with the status `STATUS` exactly where the count is right, so a program that runs shows that the linker
@@ -6,8 +6,8 @@ filled these calls in.
 """
 import os, struct
 
-from elf import (ALLOC, EXEC, GLOBAL_FUNC, GLOBAL_OBJECT, GROUP, LINKED, LOCAL_SECTION, MEMBER, PC32, PLT32, PROGBITS, R32,
-                 R64, RELA, STRTAB, SYMTAB, WEAK_FUNC, WRITE, Texts, assemble, put, relocation, symbol)
+from elf import (ALLOC, EXEC, GLOBAL_FUNC, GLOBAL_OBJECT, GROUP, LINKED, LOCAL_SECTION, MEMBER, NOBITS, PC32, PLT32,
+                 PROGBITS, R32, R64, RELA, STRTAB, SYMTAB, WEAK_FUNC, WRITE, Texts, assemble, put, relocation, symbol)
 
 STATUS = 42
 
@@ -163,4 +163,61 @@ def make_large(folder, n):
     files = ['l%d.o' % i for i in range(n)]
     for i, name in enumerate(files):
         put(os.path.join(folder, name), large(i, n, rows))
+    return files
+
+
+# Many names, and many sections: a chain of calls goes through all objects, and the rest is there to be counted.
+
+NAMES, KINDS = 250, 25
+CHAIN_CALL = 3                      # where the call of the next object's function is in the code of the chain
+
+
+def chain_code(i, n):
+    """The function of object i: it counts and calls that of object i + 1; the last one counts and returns. `_start` is
+    the code of object 0: it calls the function of object 1, so n - 1 functions are counted."""
+    if i == 0:
+        return CLEAR + NOP + CALL + bytes(4) + leave(n - 1)
+    return COUNT + NOP + (CALL + bytes(4) if i + 1 < n else NOP * 5) + RET
+
+
+def chain_rows(i, n, number):
+    """The relocation of its call, to the symbol with this number."""
+    return relocation(CHAIN_CALL + 1, PLT32, number, -4) if i + 1 < n else b''
+
+
+def chained(sections, symbols, i, n, callee):
+    """Object i of n: its sections, of which the first holds the code of the chain; its GLOBAL symbols (name, number of
+    the section), which are all at offset 0; and a reference to the next object's function."""
+    names, titles = Texts(), Texts()
+    made = symbols + ([(callee, 0)] if i + 1 < n else [])
+    table = bytes(24) + b''.join(symbol(names.at(name), GLOBAL_FUNC if k else 0x10, k) for name, k in made)
+    parts = [(titles.at(name), kind, flags, data, 0, 0, align, 0) for name, kind, flags, data, align in sections]
+    first = 1 + len(parts)
+    titled = [titles.at(name) for name in (b'.rela.text', b'.symtab', b'.strtab', b'.shstrtab')]
+    parts += [(titled[0], RELA, LINKED, chain_rows(i, n, len(made)), first + 1, 1, 8, 24),
+              (titled[1], SYMTAB, 0, table, first + 2, 1, 8, 24),
+              (titled[2], STRTAB, 0, names.bytes, 0, 0, 1, 0), (titled[3], STRTAB, 0, titles.bytes, 0, 0, 1, 0)]
+    return assemble(parts, first + 3)
+
+
+def make_names(folder, n):
+    """Writes n objects of 250 names each and tells their names: 1,000,000 names at 4,000."""
+    files = ['n%d.o' % i for i in range(n)]
+    for i, name in enumerate(files):
+        code = [(b'.text', PROGBITS, ALLOC + EXEC, chain_code(i, n), 16)]
+        symbols = [(b'name_%d_%d' % (i, k), 1) for k in range(NAMES - (i == 0))] + [(b'_start', 1)] * (i == 0)
+        put(os.path.join(folder, name), chained(code, symbols, i, n, b'name_%d_0' % (i + 1)))
+    return files
+
+
+def make_sections(folder, n):
+    """Writes n objects of 100 sections each, of four output sections, and tells their names: 200,000 at 2,000."""
+    kinds = [(b'.text.f%d', PROGBITS, ALLOC + EXEC, RET * 9, 16), (b'.rodata.c%d', PROGBITS, ALLOC, b'c' * 5, 4),
+             (b'.data.d%d', PROGBITS, ALLOC + WRITE, b'd' * 8, 8), (b'.bss.z%d', NOBITS, ALLOC + WRITE, 24, 32)]
+    rest = [(name % k, *how) for k in range(KINDS) for name, *how in kinds][1:]
+    files = ['s%d.o' % i for i in range(n)]
+    for i, name in enumerate(files):
+        code = [(b'.text.f0', PROGBITS, ALLOC + EXEC, chain_code(i, n), 16)]
+        symbols = [(b'_start' if i == 0 else b'f_%d' % i, 1)]
+        put(os.path.join(folder, name), chained(code + rest, symbols, i, n, b'f_%d' % (i + 1)))
     return files
