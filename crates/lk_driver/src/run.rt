@@ -18,6 +18,7 @@ use lk_outside::{Answer, Device, Files, Turnstile};
 use lk_report::{Bytes, NameList, Outcome, Sink, Status, say};
 use lk_scan_inputs::{ScannedInputs, scan_inputs};
 use std::alloc::Global;
+use std::mem;
 
 /// Links what the words ask for and says the status; always returns.
 ///
@@ -53,6 +54,9 @@ pub fn run_alone<F: Files, D: Device, S: Sink, G: Turnstile>(
 
 /// The image of the link that the words ask for: its passes, one after another.
 ///
+/// What a link knows of its inputs is not given back once the image is made: the process ends soon, and giving it back
+/// would take a tenth of the time of a link of many names.
+///
 /// # Errors
 /// The first refusal of a pass, in the order of the passes; out of memory at any of them.
 fn image_of_words<F: Files>(alloc: Global, words: &NameList, files: &mut F) -> Result<Bytes, Status>
@@ -73,20 +77,22 @@ fn image_of_words<F: Files>(alloc: Global, words: &NameList, files: &mut F) -> R
         needs,
         references,
     } = scanned;
-    let names = names.as_slice();
-    let objects = objects.as_slice();
-    check_needs(alloc, &needs, names)?;
+    let known = names.as_slice();
+    let made = objects.as_slice();
+    check_needs(alloc, &needs, known)?;
     let placement = full_layout(alloc, &resolution, &summaries, &needs, options)?;
-    link_image(
+    let image = link_image(
         alloc,
         options,
-        names,
-        summaries,
+        known,
+        &summaries,
         &resolution,
-        objects,
+        made,
         references,
-        placement,
-    )
+        &placement,
+    );
+    mem::forget((names, objects, summaries, resolution, placement));
+    image
 }
 
 /// Puts an image on the output device.

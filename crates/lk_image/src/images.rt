@@ -76,24 +76,25 @@ pub fn link_image(
     alloc: Global,
     options: &OptionRecord,
     names: &[InputName],
-    summaries: SummaryList,
+    summaries: &SummaryList,
     resolution: &Resolution,
     objects: &[Option<Object>],
     references: ReferenceList,
-    placement: Placement,
+    placement: &Placement,
 ) -> Result<Bytes, Status>
-    requires { length names.now ≡ length summaries }
-    ensures { (xs : List Input) → IsPlacedLink resolution.now summaries objects.now options.now xs placement → names.now ≡ map name_of xs → OccurrencesAreRight xs → references ≡ recorded_of (resolve options.now xs).references → ImageAnswers (resolve options.now xs) placement result }
+    requires { length names.now ≡ length summaries.now }
+    ensures { (xs : List Input) → IsPlacedLink resolution.now summaries.now objects.now options.now xs placement.now → names.now ≡ map name_of xs → OccurrencesAreRight xs → references ≡ recorded_of (resolve options.now xs).references → ImageAnswers (resolve options.now xs) placement.now result }
 {
     drop(references);
     let read = summaries.as_slice();
     let stack = exec_stack(read, resolution);
-    let tail = describe(alloc, options, names, read, resolution, &placement)?;
-    let values = Values::new(alloc, resolution, &summaries, &placement)?;
+    let tail = describe(alloc, options, names, read, resolution, placement)?;
+    let values = Values::new(alloc, resolution, summaries, placement)?;
     let entry = values.entry(&options.entry);
-    let front = headers(alloc, &placement, &tail.rows, entry, stack)?;
+    let front = headers(alloc, placement, &tail.rows, entry, stack)?;
     check_length(tail.length)?;
     let mut image = zeros(alloc, tail.length as usize)?;
     fill_image(alloc, objects, &values, front.as_slice(), &tail, &mut image)?;
-    Ok(Bytes::from_vec(image)?)
+    let bytes = Bytes::from_vec(image)?;
+    Ok(bytes)
 }

@@ -71,7 +71,7 @@ returns-in_err-check_needs g c =
     let names = resolution_answers options xs resolution (c.in_ok-resolution.ensures.resolution xs read.given) in
     let scan = scan_goes_on r inputs.files scanned (c.in_ok-scanned.ensures.scanned options xs read.given.files read.objects names.1) in
     let link : IsScannedLink options xs inputs resolution scanned = record { read = read; fit = c.in_ok-inputs.ensures.fit; found = names.1; scan = scan.1 } in
-    let reported = subst (λ names. NeedsAnswer scanned.needs names (Err s)) c.as_slice-names.ensures c.in_err-check_needs.ensures in
+    let reported = subst (λ names. NeedsAnswer scanned.needs names (Err s)) c.as_slice-known.ensures c.in_err-check_needs.ensures in
     subst (LinkAnswers r) (sym (p.1 ∙ ap (λ s. Err s) p.2))
     (link_answers r (needs_answer r) (Err s) (names.0 ∙ scan.0) (needs_refused options xs inputs resolution scanned link s reported)))
 
@@ -113,5 +113,5 @@ returns g c =
     (image_reported options xs inputs resolution scanned link c.in_ok-check_needs.ensures placement place c.link_image.result
     (λ ys placed are.
     c.link_image.ensures ys
-    (subst (λ objects. IsPlacedLink resolution inputs.summaries objects options ys placement) (sym c.as_slice-objects.ensures) placed)
-    (c.as_slice-names.ensures ∙ are))))
+    (subst (λ objects. IsPlacedLink resolution inputs.summaries objects options ys placement) (sym c.as_slice-made.ensures) placed)
+    (c.as_slice-known.ensures ∙ are))))

@@ -9,12 +9,12 @@ use Rattle.lk_image.proofs.images.link_image.Goals as goal
 pub returns-in_err-tail : goal.returns-in_err-tail
 returns-in_err-tail c = λ xs placed named counted references.
     let p = err_from_is_err_and c.from_residual.result c.from_residual.ensures.1 in
-    no_memory (resolve c.args.options.now xs) c.args.placement p.0 c.from_residual.result p.1 p.2
+    no_memory (resolve c.args.options.now xs) c.args.placement.now p.0 c.from_residual.result p.1 p.2
 
 pub returns-in_err-values : goal.returns-in_err-values
 returns-in_err-values c = λ xs placed named counted references.
     let p = err_from_is_err_and c.from_residual-in_err-values.result c.from_residual-in_err-values.ensures.1 in
-    no_memory (resolve c.args.options.now xs) c.args.placement p.0 c.from_residual-in_err-values.result p.1 p.2
+    no_memory (resolve c.args.options.now xs) c.args.placement.now p.0 c.from_residual-in_err-values.result p.1 p.2
 
 pub returns-in_err-front : goal.returns-in_err-front
 returns-in_err-front c = λ xs placed named counted references.
@@ -22,7 +22,7 @@ returns-in_err-front c = λ xs placed named counted references.
     let tail_is = c.in_ok-tail.ensures xs named (c.as_slice-read.ensures ∙ summed) counted placed.given.found in
     let stack_is = c.exec_stack-stack.ensures c.args.options.now xs (c.as_slice-read.ensures ∙ summed) placed.given.found in
     let p = err_from_is_err_and c.from_residual-in_err-front.result c.from_residual-in_err-front.ensures.1 in
-    headers_refused c.args.resolution.now c.args.summaries c.args.objects.now c.args.options.now xs c.args.placement placed c.in_ok-tail.tail tail_is c.in_ok-values.values c.in_ok-values.ensures
+    headers_refused c.args.resolution.now c.args.summaries.now c.args.objects.now c.args.options.now xs c.args.placement.now placed c.in_ok-tail.tail tail_is c.in_ok-values.values c.in_ok-values.ensures
     c.entry-entry.result c.entry-entry.ensures c.exec_stack-stack.result stack_is
     _ p.0 c.from_residual-in_err-front.result c.in_err-front.ensures p.1 p.2
 
@@ -32,14 +32,14 @@ returns-in_err-check_length c = λ xs placed named counted references.
     let tail_is = c.in_ok-tail.ensures xs named (c.as_slice-read.ensures ∙ summed) counted placed.given.found in
     let stack_is = c.exec_stack-stack.ensures c.args.options.now xs (c.as_slice-read.ensures ∙ summed) placed.given.found in
     let p = err_from_is_err_and c.from_residual-in_err-check_length.result c.from_residual-in_err-check_length.ensures.1 in
-    long_refused c.args.resolution.now c.args.summaries c.args.objects.now c.args.options.now xs c.args.placement placed c.in_ok-tail.tail tail_is c.in_ok-values.values c.in_ok-values.ensures
+    long_refused c.args.resolution.now c.args.summaries.now c.args.objects.now c.args.options.now xs c.args.placement.now placed c.in_ok-tail.tail tail_is c.in_ok-values.values c.in_ok-values.ensures
     c.entry-entry.result c.entry-entry.ensures c.exec_stack-stack.result stack_is
     c.in_ok-front.front c.in_ok-front.ensures _ c.from_residual-in_err-check_length.result c.in_err-check_length.ensures (p.1 ∙ ap (λ s. Err s) p.2)
 
 pub returns-in_err-image : goal.returns-in_err-image
 returns-in_err-image c = λ xs placed named counted references.
     let p = err_from_is_err_and c.from_residual-in_err-image.result c.from_residual-in_err-image.ensures.1 in
-    no_memory (resolve c.args.options.now xs) c.args.placement p.0 c.from_residual-in_err-image.result p.1 p.2
+    no_memory (resolve c.args.options.now xs) c.args.placement.now p.0 c.from_residual-in_err-image.result p.1 p.2
 
 pub returns-in_err-fill_image : goal.returns-in_err-fill_image
 returns-in_err-fill_image c = λ xs placed named counted references.
@@ -47,7 +47,7 @@ returns-in_err-fill_image c = λ xs placed named counted references.
     let tail_is = c.in_ok-tail.ensures xs named (c.as_slice-read.ensures ∙ summed) counted placed.given.found in
     let stack_is = c.exec_stack-stack.ensures c.args.options.now xs (c.as_slice-read.ensures ∙ summed) placed.given.found in
     let p = err_from_is_err_and c.from_residual-in_err-fill_image.result c.from_residual-in_err-fill_image.ensures.1 in
-    overflows_refused c.args.resolution.now c.args.summaries c.args.objects.now c.args.options.now xs c.args.placement placed c.in_ok-tail.tail tail_is c.in_ok-values.values c.in_ok-values.ensures
+    overflows_refused c.args.resolution.now c.args.summaries.now c.args.objects.now c.args.options.now xs c.args.placement.now placed c.in_ok-tail.tail tail_is c.in_ok-values.values c.in_ok-values.ensures
     c.entry-entry.result c.entry-entry.ensures c.exec_stack-stack.result stack_is
     c.in_ok-front.front c.in_ok-front.ensures c.in_ok-check_length.ensures c.as_slice.result.now c.as_slice.ensures c.deref_mut.result.now c.fill_image.new.image (c.deref_mut.ensures.value ∙ c.in_ok-image.ensures)
     _ c.from_residual-in_err-fill_image.result c.in_err-fill_image.ensures (p.1 ∙ ap (λ s. Err s) p.2)
@@ -62,7 +62,12 @@ returns c = λ xs placed named counted references.
     let sized = sym (ap (λ (bytes : List ℕ). length bytes) c.deref_mut.ensures.value) ∙ c.deref_mut.ensures.len in
     let same = c.fill_image.auto.image ∙ ap (λ (bytes : List ℕ). length bytes) c.deref_mut.ensures.value in
     let written = whole_put c.in_ok-image.image.len old new sized same in
-    image_reported c.args.resolution.now c.args.summaries c.args.objects.now c.args.options.now xs c.args.placement placed c.in_ok-tail.tail tail_is c.in_ok-values.values c.in_ok-values.ensures
+    image_reported c.args.resolution.now c.args.summaries.now c.args.objects.now c.args.options.now xs c.args.placement.now placed c.in_ok-tail.tail tail_is c.in_ok-values.values c.in_ok-values.ensures
     c.entry-entry.result c.entry-entry.ensures c.exec_stack-stack.result stack_is
     c.in_ok-front.front c.in_ok-front.ensures c.in_ok-check_length.ensures c.as_slice.result.now c.as_slice.ensures c.deref_mut.result.now c.fill_image.new.image (c.deref_mut.ensures.value ∙ c.in_ok-image.ensures)
-    c.from_vec.result _ c.in_ok-fill_image.ensures (c.from_vec.ensures ∙ written)
+    c.in_ok-bytes.bytes _ c.in_ok-fill_image.ensures (c.in_ok-bytes.ensures ∙ written)
+
+pub returns-in_err-bytes : goal.returns-in_err-bytes
+returns-in_err-bytes c = λ xs placed named counted references.
+    let p = err_from_is_err_and c.from_residual-in_err-bytes.result c.from_residual-in_err-bytes.ensures.1 in
+    no_memory (resolve c.args.options.now xs) c.args.placement.now p.0 c.from_residual-in_err-bytes.result p.1 p.2
