@@ -1,7 +1,7 @@
 //! Marks by number, as a list that grows to the greatest number that was marked.
 
-ghost use Rattle.std.specs.Prelude.{◌≡◌, ◌<◌, ℕ, ◌||◌, ◌==◌, [], false, nat_eq, get_or, length, IfOk, OnErr, OnOk};
-ghost use Rattle.lk_marks.specs.Marked.{is_marked, marks_of};
+ghost use Rattle.std.specs.Prelude.{◌≡◌, ℕ, ◌||◌, ◌==◌, [], IfOk, OnErr, OnOk};
+ghost use Rattle.lk_marks.specs.Marked.{is_marked, marks_of, with_mark};
 
 use crate::growing::make_room;
 use lk_report::NoMemory;
@@ -67,6 +67,13 @@ impl Marks {
         Ok(())
     }
 
+    /// Marks one number more, where it has a place: a number past the last mark gets none, and no memory is taken.
+    pub fn mark_within(&mut self, number: u32)
+        ensures { self.new ≡ with_mark self.old number }
+    {
+        set_mark(&mut self.by_number, number);
+    }
+
     /// Clears all marks, and keeps the memory for the next ones.
     pub fn clear(&mut self)
         ensures { self.new ≡ [] }
@@ -83,10 +90,9 @@ impl Marks {
 }
 
 /// Marks a number of a list; one past the last has no mark.
-#[tactic(auto, using(crate::proofs::MarksMade::mark_set, crate::proofs::MarksMade::no_mark))]
+#[tactic(auto, using(crate::proofs::MarksMade::no_mark))]
 fn set_mark(marks: &mut [bool], n: u32)
-    ensures length { length marks.new ≡ length marks.old }
-    ensures set { (k : ℕ) → k < length marks.old → get_or marks.new k false ≡ (get_or marks.old k false || nat_eq k n) }
+    ensures { marks.new ≡ with_mark marks.old n }
 {
     if (n as usize) < marks.len() {
         marks[n as usize] = true;
@@ -94,6 +100,7 @@ fn set_mark(marks: &mut [bool], n: u32)
 }
 
 /// For each number below `count`, whether it is one of these.
+#[tactic(auto, using(crate::proofs::MarksMade::next_mark))]
 fn marks_of(alloc: Global, count: usize, numbers: &[u32]) -> Result<Vec<bool>, NoMemory>
     ensures { IfOk result (λ marks. marks.items ≡ marks_of numbers.now count) }
 {

@@ -1,103 +1,28 @@
 -- Groups whose earlier members are known by marks have the faults of groups that are kept against the
 -- list of those members.
-use Rattle.std.specs.Prelude.{◌≡◌, refl, ℕ, zero, suc, ◌+◌, ◌<◌, ◌≤◌, ◌==◌, Bool, true, false, cond, not, ◌||◌, ◌&&◌, nat_eq, List, [], ◌∷◌, ◌++◌, drop, filter, fold, length, map, replicate, slice_get, Option, Some, None, is_none, is_some, ◌≢◌}
-use mathlib.Core.Logic.{⊎_elim}
-use Rattle.std.specs.List.{enumerate_from, list_all, list_any, range_with_len}
+use Rattle.std.specs.Prelude.{◌≡◌, refl, ℕ, zero, suc, ◌+◌, ◌<◌, ◌≤◌, ◌==◌, Bool, true, false, cond, not, ◌||◌, ◌&&◌, nat_eq, List, [], ◌∷◌, ◌++◌, drop, filter, fold, length, slice_get, Option, Some, None, is_none, is_some}
+use Rattle.std.specs.List.{enumerate_from, list_all, list_any}
 use Rattle.std.specs.Option.{option_or}
-use Rattle.std.proofs.Common.{ap, ◌∙◌, sym, arith, add-one, append_assoc, append-nil, drop-cons, ext_get_or, get_or, get_or-set_other, get_or-set_same, length-set}
+use Rattle.std.proofs.Common.{ap, ◌∙◌, sym, add-one, drop-cons, get_or}
 use Rattle.std.proofs.lemmas.Bool.{and_parts, true≢false}
-use Rattle.std.proofs.lemmas.Bool.Decides.{eqb_tells}
 use Rattle.std.proofs.lemmas.List.{drop_all}
-use Rattle.std.proofs.lemmas.List.Folds.{list_any-append}
-use Rattle.std.proofs.lemmas.List.FromFn.{get_or-map-range_with_len, length-map-range_with_len}
-use Rattle.std.proofs.lemmas.Option.{slice_get-get_or, slice_get_within}
+use Rattle.std.proofs.lemmas.Option.{slice_get_within}
 use Rattle.lk_elf.specs.Numbers.{sht_group}
 use Rattle.lk_elf.specs.declared.section_header.Shdr.{Shdr}
 use Rattle.lk_report.specs.declared.faults.InputFault.{InputFault}
 use Rattle.lk_report.specs.declared.faults.InputFault.TheVariants.{BadGroup}
+use Rattle.lk_marks.specs.Marked.{is_marked, marks_of, with_mark}
+use Rattle.lk_marks.proofs.MarksMade.{mark_reported, marks_more}
 use Rattle.lk_model.specs.Checks.{first_fault}
 use Rattle.lk_model.specs.ObjectChecks.{group_checks, group_checks_after, has_group_flag, is_group_size, is_section, is_symbol_table}
 use Rattle.lk_model.specs.Objects.{group_sections, members_under, signature_of}
 use Rattle.lk_model.specs.Views.{Elf}
-use Rattle.lk_obj_parts.specs.GroupMarks.{fault_if_group, is_bad_head, is_marked, is_section_in, is_table_at, marked_fault, marked_faults, marks_after, marks_of, with_mark}
+use Rattle.lk_obj_parts.specs.GroupMarks.{fault_if_group, is_bad_head, is_section_in, is_table_at, marked_fault, marked_faults, marks_after}
 use Rattle.lk_obj_parts.specs.GroupParts.{members_in, words_in}
 use Rattle.lk_obj_parts.proofs.GroupWords.{words_reported}
 use Rattle.lk_obj_parts.specs.SymbolTables.{symbols_at}
 use Rattle.lk_obj_parts.proofs.NamedGroups.{is_table_reported}
 use Rattle.lk_obj_parts.proofs.Headers.{section_reported}
-
--- ---- marks
-
-pub no_mark : (marks : List Bool) (n : ℕ) → length marks ≤ n → with_mark marks n ≡ marks
-no_mark [] n l = refl
-no_mark (m ∷ ms) zero l = absurd (omega (arith, l))
-no_mark (m ∷ ms) (suc n) l = ap (λ bs. m ∷ bs) (no_mark ms n (omega (arith, l)))
-
-marks_length : (count : ℕ) (claimed : List ℕ) → length (marks_of count claimed) ≡ count
-unfolding marks_of
-marks_length count claimed = length-map-range_with_len (λ n. list_any (nat_eq n) claimed) 0 count
-
-mark_got : (count : ℕ) (claimed : List ℕ) (n : ℕ) → n < count → get_or (marks_of count claimed) n false ≡ list_any (nat_eq n) claimed
-unfolding marks_of
-mark_got count claimed n l = get_or-map-range_with_len (λ k. list_any (nat_eq k) claimed) 0 count n n false l (omega arith)
-
-mark_reported : (count : ℕ) (claimed : List ℕ) (n : ℕ) → n < count → is_marked (marks_of count claimed) n ≡ list_any (nat_eq n) claimed
-mark_reported count claimed n l =
-    let got : slice_get (marks_of count claimed) n ≡ Some (get_or (marks_of count claimed) n false) = slice_get-get_or (marks_of count claimed) n false (omega (arith, l, marks_length count claimed)) in
-    rw got (mark_got count claimed n l)
-
-any_one : (n m : ℕ) (claimed : List ℕ) → list_any (nat_eq n) (claimed ++ m ∷ []) ≡ (list_any (nat_eq n) claimed || (nat_eq n m || false))
-any_one n m claimed = list_any-append (nat_eq n) claimed (m ∷ [])
-
-or-right : (a : Bool) → (a || true) ≡ true
-or-right true = refl
-or-right false = refl
-
-or-none : (a : Bool) → (a || false) ≡ a
-or-none true = refl
-or-none false = refl
-
-mark_more : (count : ℕ) (claimed : List ℕ) (m : ℕ) → with_mark (marks_of count claimed) m ≡ marks_of count (claimed ++ m ∷ [])
-mark_more count claimed m =
-    ext_get_or false (with_mark (marks_of count claimed) m) (marks_of count (claimed ++ m ∷ []))
-    (length-set (marks_of count claimed) m true ∙ marks_length count claimed ∙ sym (marks_length count (claimed ++ m ∷ [])))
-    (λ i l. at i (omega (arith, l, length-set (marks_of count claimed) m true, marks_length count claimed)))
-  where
-    apart : (i : ℕ) → i < count → nat_eq i m ≡ false → i ≢ m → get_or (with_mark (marks_of count claimed) m) i false ≡ get_or (marks_of count (claimed ++ m ∷ [])) i false
-    apart i l e differ =
-        get_or-set_other (marks_of count claimed) m i true false differ
-        ∙ mark_got count claimed i l
-        ∙ sym (or-none (list_any (nat_eq i) claimed))
-        ∙ ap (λ t. list_any (nat_eq i) claimed || (t || false)) (sym e)
-        ∙ sym (any_one i m claimed)
-        ∙ sym (mark_got count (claimed ++ m ∷ []) i l)
-
-    same : (i : ℕ) → i < count → nat_eq i m ≡ true → i ≡ m → get_or (with_mark (marks_of count claimed) m) i false ≡ get_or (marks_of count (claimed ++ m ∷ [])) i false
-    same i l e is =
-        ap (λ k. get_or (with_mark (marks_of count claimed) k) i false) (sym is)
-        ∙ get_or-set_same (marks_of count claimed) i true false (omega (arith, l, marks_length count claimed))
-        ∙ sym (or-right (list_any (nat_eq i) claimed))
-        ∙ ap (λ t. list_any (nat_eq i) claimed || (t || false)) (sym e)
-        ∙ sym (any_one i m claimed)
-        ∙ sym (mark_got count (claimed ++ m ∷ []) i l)
-
-    at : (i : ℕ) → i < count → get_or (with_mark (marks_of count claimed) m) i false ≡ get_or (marks_of count (claimed ++ m ∷ [])) i false
-    at i l = ⊎_elim (λ p. same i l p.0 p.1) (λ p. apart i l p.0 p.1) (eqb_tells i m)
-
-pub fold_more : (count : ℕ) (claimed ms : List ℕ) → fold with_mark (marks_of count claimed) ms ≡ marks_of count (claimed ++ ms)
-fold_more count claimed [] = ap (marks_of count) (sym (append-nil claimed))
-fold_more count claimed (m ∷ ms) =
-    ap (λ (marks : List Bool). fold with_mark marks ms) (mark_more count claimed m)
-    ∙ fold_more count (claimed ++ m ∷ []) ms
-    ∙ ap (marks_of count) (append_assoc claimed (m ∷ []) ms)
-
-replicated : (count a : ℕ) → replicate count false ≡ map (λ n. list_any (nat_eq n) []) (range_with_len a count)
-replicated zero a = refl
-replicated (suc count) a = ap (λ bs. false ∷ bs) (replicated count (a + 1))
-
-none_marked : (count : ℕ) → replicate count false ≡ marks_of count []
-unfolding marks_of
-none_marked count = replicated count 0
 
 -- ---- members
 
@@ -109,14 +34,14 @@ there sections (suc n) e = within (slice_get sections (suc n)) refl e
     within None g t = absurd (true≢false (sym t))
     within (Some x) g t = slice_get_within sections (suc n) x g
 
-any_reported : (sections : List Shdr) (claimed ms : List ℕ) → list_all (is_section_in sections) ms ≡ true → list_any (is_marked (marks_of (length sections) claimed)) ms ≡ list_any (λ m. list_any (nat_eq m) claimed) ms
+any_reported : (sections : List Shdr) (claimed ms : List ℕ) → list_all (is_section_in sections) ms ≡ true → list_any (is_marked (marks_of claimed (length sections))) ms ≡ list_any (λ m. list_any (nat_eq m) claimed) ms
 any_reported sections claimed [] e = refl
 any_reported sections claimed (m ∷ ms) e =
     let parts : (is_section_in sections m ≡ true) × (list_all (is_section_in sections) ms ≡ true) = and_parts (is_section_in sections m) (list_all (is_section_in sections) ms) e in
-    ap (λ t. t || list_any (is_marked (marks_of (length sections) claimed)) ms) (mark_reported (length sections) claimed m (there sections m parts.0))
+    ap (λ t. t || list_any (is_marked (marks_of claimed (length sections))) ms) (mark_reported claimed (length sections) m (there sections m parts.0))
     ∙ ap (λ t. list_any (nat_eq m) claimed || t) (any_reported sections claimed ms parts.1)
 
-members_reported : (sections : List Shdr) (claimed ms : List ℕ) (t : Bool) → list_all (is_section_in sections) ms ≡ t → (not t || list_any (is_marked (marks_of (length sections) claimed)) ms) ≡ (not t || list_any (λ m. list_any (nat_eq m) claimed) ms)
+members_reported : (sections : List Shdr) (claimed ms : List ℕ) (t : Bool) → list_all (is_section_in sections) ms ≡ t → (not t || list_any (is_marked (marks_of claimed (length sections))) ms) ≡ (not t || list_any (λ m. list_any (nat_eq m) claimed) ms)
 members_reported sections claimed ms true e = any_reported sections claimed ms e
 members_reported sections claimed ms false e = refl
 
@@ -137,7 +62,7 @@ six false false false false true f g = refl
 six false false false false false true g = refl
 six false false false false false false g = refl
 
-reported_with : (elf : Elf) (claimed : List ℕ) (n : ℕ) (header : Shdr) → marked_fault elf (marks_of (length elf.sections) claimed) n header ≡ first_fault (group_checks elf claimed n header (members_in elf.bytes header))
+reported_with : (elf : Elf) (claimed : List ℕ) (n : ℕ) (header : Shdr) → marked_fault elf (marks_of claimed (length elf.sections)) n header ≡ first_fault (group_checks elf claimed n header (members_in elf.bytes header))
 unfolding marked_fault group_checks
 reported_with elf claimed n header =
     let ms : List ℕ = members_in elf.bytes header in
@@ -150,7 +75,7 @@ reported_with elf claimed n header =
 members_same : (elf : Elf) (header : Shdr) → members_in elf.bytes header ≡ members_under elf header
 members_same elf header = ap (drop 1) (sym (words_reported elf header))
 
-pub fault_reported : (elf : Elf) (marks : List Bool) (claimed : List ℕ) (n : ℕ) (header : Shdr) → marks ≡ marks_of (length elf.sections) claimed → marked_fault elf marks n header ≡ first_fault (group_checks elf claimed n header (members_under elf header))
+pub fault_reported : (elf : Elf) (marks : List Bool) (claimed : List ℕ) (n : ℕ) (header : Shdr) → marks ≡ marks_of claimed (length elf.sections) → marked_fault elf marks n header ≡ first_fault (group_checks elf claimed n header (members_under elf header))
 fault_reported elf marks claimed n header e =
     ap (λ (bs : List Bool). marked_fault elf bs n header) e
     ∙ reported_with elf claimed n header
@@ -166,30 +91,30 @@ fault_joined ((false, g) ∷ xs) ys = fault_joined xs ys
 abbrev is_group : ℕ × Shdr → Bool
 is_group row = row.1.sh_type == sht_group
 
-faults_after : (elf : Elf) (claimed : List ℕ) (n : ℕ) (headers : List Shdr) → marked_faults elf (marks_of (length elf.sections) claimed) n headers ≡ first_fault (group_checks_after elf claimed (filter is_group (enumerate_from n headers)))
+faults_after : (elf : Elf) (claimed : List ℕ) (n : ℕ) (headers : List Shdr) → marked_faults elf (marks_of claimed (length elf.sections)) n headers ≡ first_fault (group_checks_after elf claimed (filter is_group (enumerate_from n headers)))
 unfolding marked_faults group_checks_after fault_if_group marks_after
 faults_after elf claimed n [] = refl
 faults_after elf claimed n (header ∷ headers) =
     by_type elf claimed n header headers (λ earlier. faults_after elf earlier (n + 1) headers) (header.sh_type == sht_group)
   where
     by_type : (elf : Elf) (claimed : List ℕ) (n : ℕ) (header : Shdr) (headers : List Shdr)
-        → ((earlier : List ℕ) → marked_faults elf (marks_of (length elf.sections) earlier) (n + 1) headers ≡ first_fault (group_checks_after elf earlier (filter is_group (enumerate_from (n + 1) headers))))
+        → ((earlier : List ℕ) → marked_faults elf (marks_of earlier (length elf.sections)) (n + 1) headers ≡ first_fault (group_checks_after elf earlier (filter is_group (enumerate_from (n + 1) headers))))
         → (t : Bool)
-        → option_or (cond t (marked_fault elf (marks_of (length elf.sections) claimed) n header) None) (marked_faults elf (cond t (fold with_mark (marks_of (length elf.sections) claimed) (members_in elf.bytes header)) (marks_of (length elf.sections) claimed)) (n + 1) headers)
+        → option_or (cond t (marked_fault elf (marks_of claimed (length elf.sections)) n header) None) (marked_faults elf (cond t (fold with_mark (marks_of claimed (length elf.sections)) (members_in elf.bytes header)) (marks_of claimed (length elf.sections))) (n + 1) headers)
         ≡ first_fault (group_checks_after elf claimed (cond t ((n, header) ∷ filter is_group (enumerate_from (n + 1) headers)) (filter is_group (enumerate_from (n + 1) headers))))
     by_type elf claimed n header headers on false = on claimed
     by_type elf claimed n header headers on true =
-        let marks : List Bool = marks_of (length elf.sections) claimed in
+        let marks : List Bool = marks_of claimed (length elf.sections) in
         let here : List (Bool × InputFault) = group_checks elf claimed n header (members_under elf header) in
         ap (λ (o : Option InputFault). option_or o (marked_faults elf (fold with_mark marks (members_in elf.bytes header)) (n + 1) headers)) (fault_reported elf marks claimed n header refl)
         ∙ ap (λ ms. option_or (first_fault here) (marked_faults elf (fold with_mark marks ms) (n + 1) headers)) (members_same elf header)
-        ∙ ap (λ (bs : List Bool). option_or (first_fault here) (marked_faults elf bs (n + 1) headers)) (fold_more (length elf.sections) claimed (members_under elf header))
+        ∙ ap (λ (bs : List Bool). option_or (first_fault here) (marked_faults elf bs (n + 1) headers)) (marks_more claimed (length elf.sections) (members_under elf header))
         ∙ ap (option_or (first_fault here)) (on (claimed ++ members_under elf header))
         ∙ sym (fault_joined here (group_checks_after elf (claimed ++ members_under elf header) (filter is_group (enumerate_from (n + 1) headers))))
 
-pub faults_reported : (elf : Elf) (marks : List Bool) → marks ≡ replicate (length elf.sections) false → marked_faults elf marks 1 (drop 1 elf.sections) ≡ first_fault (group_checks_after elf [] (group_sections elf))
+pub faults_reported : (elf : Elf) (marks : List Bool) → marks ≡ marks_of [] (length elf.sections) → marked_faults elf marks 1 (drop 1 elf.sections) ≡ first_fault (group_checks_after elf [] (group_sections elf))
 faults_reported elf marks e =
-    ap (λ (bs : List Bool). marked_faults elf bs 1 (drop 1 elf.sections)) (e ∙ none_marked (length elf.sections))
+    ap (λ (bs : List Bool). marked_faults elf bs 1 (drop 1 elf.sections)) e
     ∙ faults_after elf [] 1 (drop 1 elf.sections)
 
 -- ---- the loop over sections

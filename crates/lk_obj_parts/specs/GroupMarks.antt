@@ -1,12 +1,13 @@
 -- The groups of an object, one after another (gABI "Section Groups"): marks, one for each section, have the section
 -- numbers that earlier groups claimed, so that no group is compared with each other one.
-use Rattle.std.specs.Prelude.{ℕ, ◌+◌, ◌==◌, Bool, true, not, ◌||◌, if◌then◌else◌, nat_eq, List, [], ◌∷◌, map, fold, slice_get, slice_set, Option, Some, None, is_some, is_none}
-use Rattle.std.specs.List.{list_all, list_any, range_with_len}
+use Rattle.std.specs.Prelude.{ℕ, ◌+◌, ◌==◌, Bool, not, ◌||◌, if◌then◌else◌, List, [], ◌∷◌, fold, Option, Some, None, is_some, is_none}
+use Rattle.std.specs.List.{list_all, list_any}
 use Rattle.std.specs.Option.{option_or}
 use Rattle.lk_elf.specs.Numbers.{sht_group}
 use Rattle.lk_elf.specs.declared.section_header.Shdr.{Shdr}
 use Rattle.lk_report.specs.declared.faults.InputFault.{InputFault}
 use Rattle.lk_report.specs.declared.faults.InputFault.TheVariants.{BadGroup}
+use Rattle.lk_marks.specs.Marked.{is_marked, with_mark}
 use Rattle.lk_model.specs.Checks.{is_some_with}
 use Rattle.lk_model.specs.ObjectChecks.{has_group_flag, is_group_size}
 use Rattle.lk_model.specs.Objects.{signature_of}
@@ -15,14 +16,6 @@ use Rattle.lk_obj_parts.specs.ElfViews.{header_at}
 use Rattle.lk_obj_parts.specs.GroupParts.{members_in, words_in}
 use Rattle.lk_obj_parts.specs.SymbolTables.{symbols_at}
 use Rattle.lk_obj_parts.specs.declared.symbol_tables.SymbolsAt.{SymbolsAt}
-
--- for each number below a count whether it is in a list
-unfoldable pub marks_of : ℕ → List ℕ → List Bool
-marks_of count claimed = map (λ n. list_any (nat_eq n) claimed) (range_with_len 0 count)
-
--- whether a number is marked
-abbrev pub is_marked : List Bool → ℕ → Bool
-is_marked marks n = is_some_with (λ (mark : Bool). mark) (slice_get marks n)
 
 -- a section of this number is among these
 abbrev pub is_section_in : List Shdr → ℕ → Bool
@@ -49,10 +42,6 @@ are_bad_members sections marks members =
 unfoldable pub marked_fault : Elf → List Bool → ℕ → Shdr → Option InputFault
 marked_fault elf marks n header =
     if is_bad_head elf header || are_bad_members elf.sections marks (members_in elf.bytes header) then Some (BadGroup n) else None
-
--- marks with one more number
-abbrev pub with_mark : List Bool → ℕ → List Bool
-with_mark marks n = slice_set marks n true
 
 -- a section that is a group
 abbrev pub is_group : Shdr → Bool

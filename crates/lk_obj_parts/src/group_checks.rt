@@ -10,11 +10,12 @@
 ghost use Rattle.std.specs.Prelude.{◌≡◌, ◌+◌, ◌^◌, ◌<◌, ◌==◌, ◌||◌, ℕ, List, [], drop, fold, length, not, is_none, is_some, IfOk, None};
 ghost use Rattle.std.specs.List.{list_all, list_any};
 ghost use Rattle.lk_elf.specs.declared.symbol.Sym.{Sym};
-ghost use Rattle.lk_model.specs.Checks.{first_fault, is_some_with};
+ghost use Rattle.lk_marks.specs.Marked.{is_marked, marks_of, with_mark};
+ghost use Rattle.lk_model.specs.Checks.{first_fault};
 ghost use Rattle.lk_model.specs.ObjectChecks.{group_checks, group_checks_after, has_group_flag, is_group_size};
 ghost use Rattle.lk_model.specs.Objects.{group_sections, members_under, signature_of};
 ghost use Rattle.lk_obj_parts.specs.ElfViews.{elf_from};
-ghost use Rattle.lk_obj_parts.specs.GroupMarks.{are_bad_members, fault_if_group, is_bad_head, is_group, is_marked, is_section_in, is_table_at, marked_fault, marked_faults, marks_after, marks_of, with_mark};
+ghost use Rattle.lk_obj_parts.specs.GroupMarks.{are_bad_members, fault_if_group, is_bad_head, is_group, is_section_in, is_table_at, marked_fault, marked_faults, marks_after};
 ghost use Rattle.lk_obj_parts.specs.GroupParts.{members_in, words_in};
 ghost use Rattle.lk_obj_parts.specs.SymbolTables.{symbols_at};
 
@@ -24,6 +25,7 @@ use crate::symbol_tables::SymbolsAt;
 use crate::texts::header_at;
 use lk_elf::numbers::SHT_GROUP;
 use lk_elf::{Ehdr, Shdr, Sym};
+use lk_marks::Marks;
 use lk_report::{InputFault, NoMemory};
 use std::alloc::Global;
 
@@ -118,23 +120,13 @@ fn are_sections(bytes: &[u8], sections: &[Shdr], section: &Shdr) -> bool
     true
 }
 
-/// Whether a section number is marked.
-fn is_marked(marks: &[bool], n: u32) -> bool
-    ensures { result ≡ is_marked marks.now n }
-{
-    match marks.get(n as usize) {
-        None => false,
-        Some(mark) => *mark,
-    }
-}
-
 /// Whether a member of a group is marked.
 #[tactic(auto, using(crate::proofs::GroupWords::any_here, crate::proofs::GroupWords::none_here, crate::proofs::GroupWords::none_left))]
-fn is_any_marked(bytes: &[u8], marks: &[bool], section: &Shdr) -> bool
+fn is_any_marked(bytes: &[u8], marks: &Marks, section: &Shdr) -> bool
     ensures { result ≡ list_any (is_marked marks.now) (members_in bytes.now section.now) }
 {
     for k in 1..word_count(bytes, section) {
-        if is_marked(marks, word(bytes, section, k)) {
+        if marks.is_marked(word(bytes, section, k)) {
             return true;
         }
     }
@@ -142,7 +134,7 @@ fn is_any_marked(bytes: &[u8], marks: &[bool], section: &Shdr) -> bool
 }
 
 /// Whether a member of a group is no section, or is marked.
-fn are_bad_members(bytes: &[u8], sections: &[Shdr], marks: &[bool], section: &Shdr) -> bool
+fn are_bad_members(bytes: &[u8], sections: &[Shdr], marks: &Marks, section: &Shdr) -> bool
     ensures { result ≡ are_bad_members sections.now marks.now (members_in bytes.now section.now) }
 {
     !are_sections(bytes, sections, section) || is_any_marked(bytes, marks, section)
@@ -156,7 +148,7 @@ fn marked_fault(
     sections: &[Shdr],
     symbols: &[Sym],
     table: Option<SymbolsAt>,
-    marks: &[bool],
+    marks: &Marks,
     n: u32,
     section: &Shdr,
 ) -> Option<InputFault>
@@ -179,34 +171,24 @@ fn group_fault(
     sections: &[Shdr],
     symbols: &[Sym],
     table: Option<SymbolsAt>,
-    marks: &[bool],
+    marks: &Marks,
     n: u32,
     section: &Shdr,
 ) -> Option<InputFault>
     requires found { table ≡ symbols_at sections.now }
     ensures marked { result ≡ marked_fault (elf_from bytes.now header.now sections.now symbols.now) marks.now n section.now }
-    ensures claimed { (claimed : List ℕ) → marks.now ≡ marks_of (length sections.now) claimed → result ≡ first_fault (group_checks (elf_from bytes.now header.now sections.now symbols.now) claimed n section.now (members_under (elf_from bytes.now header.now sections.now symbols.now) section.now)) }
+    ensures claimed { (claimed : List ℕ) → marks.now ≡ marks_of claimed (length sections.now) → result ≡ first_fault (group_checks (elf_from bytes.now header.now sections.now symbols.now) claimed n section.now (members_under (elf_from bytes.now header.now sections.now symbols.now) section.now)) }
 {
     marked_fault(bytes, header, sections, symbols, table, marks, n, section)
 }
 
-/// Marks a section number; a number past the last has no mark.
-#[tactic(auto, using(crate::proofs::GroupsMarked::no_mark))]
-fn set_mark(marks: &mut [bool], n: u32)
-    ensures { marks.new ≡ with_mark marks.old n }
-{
-    if (n as usize) < marks.len() {
-        marks[n as usize] = true;
-    }
-}
-
 /// Marks the members of a group.
 #[tactic(auto, using(crate::proofs::GroupWords::fold_here, crate::proofs::GroupWords::fold_left))]
-fn mark_members(bytes: &[u8], marks: &mut [bool], section: &Shdr)
+fn mark_members(bytes: &[u8], marks: &mut Marks, section: &Shdr)
     ensures { marks.new ≡ fold with_mark marks.old (members_in bytes.now section.now) }
 {
     for k in 1..word_count(bytes, section) {
-        set_mark(marks, word(bytes, section, k));
+        marks.mark_within(word(bytes, section, k));
     }
 }
 
@@ -218,7 +200,7 @@ fn claim(
     sections: &[Shdr],
     symbols: &[Sym],
     table: Option<SymbolsAt>,
-    marks: &mut [bool],
+    marks: &mut Marks,
     n: u32,
     section: &Shdr,
 ) -> Option<InputFault>
@@ -243,7 +225,7 @@ fn marked_faults(
     header: &Ehdr,
     sections: &[Shdr],
     symbols: &[Sym],
-    marks: &mut [bool],
+    marks: &mut Marks,
 ) -> Option<InputFault>
     requires few { length sections.now < 2 ^ 32 }
     ensures { result ≡ marked_faults (elf_from bytes.now header.now sections.now symbols.now) marks.old 1 (drop 1 sections.now) }
@@ -294,8 +276,6 @@ pub fn groups_fault(
     if !has_group(sections) {
         return Ok(None);
     }
-    let Ok(mut marks) = Vec::from_elem(alloc, false, sections.len()) else {
-        return Err(NoMemory);
-    };
+    let mut marks = Marks::of(alloc, sections.len(), &[])?;
     Ok(marked_faults(bytes, header, sections, symbols, &mut marks))
 }

@@ -8,12 +8,12 @@ use Rattle.lk_elf.specs.declared.section_header.Shdr.{Shdr}
 use Rattle.lk_elf.specs.declared.symbol.Sym.{Sym}
 use Rattle.lk_model.specs.declared.layouts.SectionKey.{SectionKey}
 use Rattle.lk_model.specs.declared.summaries.PieceInfo.{PieceInfo}
+use Rattle.lk_marks.specs.Marked.{is_marked}
 use Rattle.lk_model.specs.Elf.{section_at, section_name}
 use Rattle.lk_model.specs.Objects.{four_zeros, is_frames, is_terminator, is_terminator_where, piece_bytes_in, piece_named, piece_with, pieces_in, relocations_in}
 use Rattle.lk_model.specs.Pieces.{key_of}
 use Rattle.lk_model.specs.Views.{Elf}
 use Rattle.lk_obj_parts.specs.ElfViews.{elf_from}
-use Rattle.lk_obj_parts.specs.GroupMarks.{is_marked}
 use Rattle.lk_outsec.specs.PieceTypes.{may_be_piece}
 use Rattle.lk_outsec.proofs.PieceTypes.{no_key}
 use Rattle.lk_obj_parts.proofs.Rows.{rows_done, rows_next}

@@ -1,8 +1,8 @@
 -- Marks on the targets of relocations say which sections have relocations.
-use Rattle.std.specs.Prelude.{◌≡◌, refl, ℕ, zero, suc, ◌+◌, ◌*◌, ◌<◌, ◌≤◌, ◌==◌, Bool, true, false, cond, not, ◌||◌, ◌&&◌, nat_eq, List, [], ◌∷◌, ◌++◌, drop, filter, flat_map, length, replicate, slice_get, Some, ◌≢◌}
+use Rattle.std.specs.Prelude.{◌≡◌, refl, ℕ, suc, ◌+◌, ◌*◌, ◌<◌, ◌≤◌, ◌==◌, Bool, true, false, cond, not, ◌||◌, ◌&&◌, nat_eq, List, [], ◌∷◌, ◌++◌, drop, filter, flat_map, length, slice_get, Some, ◌≢◌}
 use mathlib.Core.Logic.{⊎_elim}
 use Rattle.std.specs.List.{enumerate_from, list_any}
-use Rattle.std.proofs.Common.{ap, ◌∙◌, sym, arith, add-one, drop-cons, get_or, get_or-set_other, get_or-set_same, length-set}
+use Rattle.std.proofs.Common.{ap, ◌∙◌, sym, arith, add-one, drop-cons, get_or}
 use Rattle.std.proofs.lemmas.Bool.Decides.{eqb_tells}
 use Rattle.std.proofs.lemmas.List.{drop_all}
 use Rattle.std.proofs.lemmas.List.FromFn.{length-map-range_with_len}
@@ -11,9 +11,10 @@ use Rattle.lk_elf.specs.Numbers.{sht_rela, rela_size}
 use Rattle.lk_elf.specs.Records.{rela_at}
 use Rattle.lk_elf.specs.declared.section_header.Shdr.{Shdr}
 use Rattle.lk_elf.specs.declared.relocation.Rela.{Rela}
+use Rattle.lk_marks.specs.Marked.{is_marked, marks_of, with_mark}
+use Rattle.lk_marks.proofs.MarksMade.{mark_got, mark_length, mark_set, marks_length}
 use Rattle.lk_model.specs.Objects.{rela_count, relas_under, relocations_in}
 use Rattle.lk_model.specs.Views.{Elf}
-use Rattle.lk_obj_parts.specs.GroupMarks.{is_marked, with_mark}
 use Rattle.lk_obj_read.specs.RelocatedSections.{entries_in, has_entries, is_relocated, marked_after, marked_by}
 
 -- ---- the loop
@@ -42,28 +43,12 @@ or-swap true false = refl
 or-swap false true = refl
 or-swap false false = refl
 
-set_reported : (marks : List Bool) (m n : ℕ) → n < length marks → get_or (with_mark marks m) n false ≡ (get_or marks n false || nat_eq n m)
-set_reported marks m n l = ⊎_elim (λ p. same p.0 p.1) (λ p. apart p.0 p.1) (eqb_tells n m)
-  where
-    same : nat_eq n m ≡ true → n ≡ m → get_or (with_mark marks m) n false ≡ (get_or marks n false || nat_eq n m)
-    same e is =
-        ap (λ k. get_or (with_mark marks k) n false) (sym is)
-        ∙ get_or-set_same marks n true false l
-        ∙ or-swap true (get_or marks n false)
-        ∙ ap (λ t. get_or marks n false || t) (sym e)
-
-    apart : nat_eq n m ≡ false → n ≢ m → get_or (with_mark marks m) n false ≡ (get_or marks n false || nat_eq n m)
-    apart e differ =
-        get_or-set_other marks m n true false differ
-        ∙ or-swap false (get_or marks n false)
-        ∙ ap (λ t. get_or marks n false || t) (sym e)
-
 after_reported : (t : Bool) (marks : List Bool) (m n : ℕ) → n < length marks → get_or (cond t (with_mark marks m) marks) n false ≡ (get_or marks n false || (t && nat_eq n m))
-after_reported true marks m n l = set_reported marks m n l
+after_reported true marks m n l = mark_set marks m n l
 after_reported false marks m n l = or-swap false (get_or marks n false)
 
 after_length : (t : Bool) (marks : List Bool) (m : ℕ) → length (cond t (with_mark marks m) marks) ≡ length marks
-after_length true marks m = length-set marks m true
+after_length true marks m = mark_length marks m
 after_length false marks m = refl
 
 by_reported : (bytes : List ℕ) (marks : List Bool) (n : ℕ) (headers : List Shdr) → n < length marks → get_or (marked_by bytes marks headers) n false ≡ (get_or marks n false || list_any (hits bytes n) headers)
@@ -77,15 +62,6 @@ by_reported bytes marks n (h ∷ hs) l =
 by_length : (bytes : List ℕ) (marks : List Bool) (headers : List Shdr) → length (marked_by bytes marks headers) ≡ length marks
 by_length bytes marks [] = refl
 by_length bytes marks (h ∷ hs) = by_length bytes (marked_after bytes marks h) hs ∙ after_length (has_entries bytes h) marks h.sh_info
-
-none_yet : (count n : ℕ) → get_or (replicate count false) n false ≡ false
-none_yet zero n = refl
-none_yet (suc count) zero = refl
-none_yet (suc count) (suc n) = none_yet count n
-
-replicated_length : (count : ℕ) → length (replicate count false) ≡ count
-replicated_length zero = refl
-replicated_length (suc count) = ap suc (replicated_length count)
 
 -- ---- what has relocations
 
@@ -136,19 +112,19 @@ counted elf n k (h ∷ hs) =
     ∙ ap (λ (zs : List Rela). not (length zs == 0)) (sym (flat_cond elf (h.sh_type == sht_rela && h.sh_info == n) (k, h) (filter (is_on n) (enumerate_from (k + 1) hs))))
 
 abbrev all_marks : Elf → List Bool
-all_marks elf = marked_by elf.bytes (replicate (length elf.sections) false) (drop 1 elf.sections)
+all_marks elf = marked_by elf.bytes (marks_of [] (length elf.sections)) (drop 1 elf.sections)
 
 got : (elf : Elf) (n : ℕ) → n < length elf.sections → get_or (all_marks elf) n false ≡ list_any (hits elf.bytes n) (drop 1 elf.sections)
 got elf n l =
-    by_reported elf.bytes (replicate (length elf.sections) false) n (drop 1 elf.sections) (omega (arith, l, replicated_length (length elf.sections)))
-    ∙ ap (λ t. t || list_any (hits elf.bytes n) (drop 1 elf.sections)) (none_yet (length elf.sections) n)
+    by_reported elf.bytes (marks_of [] (length elf.sections)) n (drop 1 elf.sections) (omega (arith, l, marks_length [] (length elf.sections)))
+    ∙ ap (λ t. t || list_any (hits elf.bytes n) (drop 1 elf.sections)) (mark_got [] (length elf.sections) n l)
 
 marked : (elf : Elf) (n : ℕ) → n < length elf.sections → is_marked (all_marks elf) n ≡ is_relocated elf n
 unfolding relocations_in
 marked elf n l =
-    let long : n < length (all_marks elf) = omega (arith, l, by_length elf.bytes (replicate (length elf.sections) false) (drop 1 elf.sections), replicated_length (length elf.sections)) in
+    let long : n < length (all_marks elf) = omega (arith, l, by_length elf.bytes (marks_of [] (length elf.sections)) (drop 1 elf.sections), marks_length [] (length elf.sections)) in
     let there : slice_get (all_marks elf) n ≡ Some (get_or (all_marks elf) n false) = slice_get-get_or (all_marks elf) n false long in
     rw there (got elf n l ∙ counted elf n 1 (drop 1 elf.sections))
 
-pub reported : (elf : Elf) (marks : List Bool) (n : ℕ) → n < length elf.sections → marks ≡ marked_by elf.bytes (replicate (length elf.sections) false) (drop 1 elf.sections) → is_marked marks n ≡ is_relocated elf n
+pub reported : (elf : Elf) (marks : List Bool) (n : ℕ) → n < length elf.sections → marks ≡ marked_by elf.bytes (marks_of [] (length elf.sections)) (drop 1 elf.sections) → is_marked marks n ≡ is_relocated elf n
 reported elf marks n l e = ap (λ (ms : List Bool). is_marked ms n) e ∙ marked elf n l

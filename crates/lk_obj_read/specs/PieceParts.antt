@@ -1,9 +1,10 @@
 -- The pieces of an object section by section (gABI "Sections"): each by its header, by its name, and by
 -- whether it has relocations, which is known of all sections at once.
-use Rattle.std.specs.Prelude.{◌≡◌, ℕ, ◌==◌, ◌&&◌, Bool, true, false, not, if◌then◌else◌, List, [], take, drop, length, replicate, bytes_eq, filter_map, Option, option_map, option_and_then}
+use Rattle.std.specs.Prelude.{◌≡◌, ℕ, ◌==◌, ◌&&◌, Bool, true, not, if◌then◌else◌, List, [], take, drop, length, bytes_eq, filter_map, Option, option_map, option_and_then}
 use Rattle.std.specs.List.{enumerate_from, list_any}
 use Rattle.lk_elf.specs.Numbers.{sht_nobits}
 use Rattle.lk_elf.specs.declared.section_header.Shdr.{Shdr}
+use Rattle.lk_marks.specs.Marked.{marks_of}
 use Rattle.lk_model.specs.declared.layouts.SectionKey.{SectionKey}
 use Rattle.lk_model.specs.declared.summaries.PieceInfo.{PieceInfo}
 use Rattle.lk_model.specs.Elf.{section_name}
@@ -25,7 +26,7 @@ is_four_zeros bytes header = bytes_eq (stored_bytes bytes header) four_zeros
 abbrev pub MarksServe : List ℕ → List Shdr → List Bool → Type 0
 MarksServe bytes headers marks =
     list_any (is_four_zeros bytes) headers ≡ true
-    → marks ≡ marked_by bytes (replicate (length headers) false) (drop 1 headers)
+    → marks ≡ marked_by bytes (marks_of [] (length headers)) (drop 1 headers)
 
 -- a terminator: frames of exactly four zero bytes, of a section of which it is known whether it has relocations
 abbrev pub is_terminator_reported : List ℕ → Bool → Shdr → SectionKey → Bool

@@ -2,10 +2,10 @@
 use Rattle.std.specs.Prelude.{ℕ, ◌==◌, ◌/◌, ◌&&◌, Bool, not, if◌then◌else◌, List, fold, length}
 use Rattle.lk_elf.specs.Numbers.{sht_rela, rela_size}
 use Rattle.lk_elf.specs.declared.section_header.Shdr.{Shdr}
+use Rattle.lk_marks.specs.Marked.{with_mark}
 use Rattle.lk_model.specs.Elf.{lies_in}
 use Rattle.lk_model.specs.Objects.{relocations_in}
 use Rattle.lk_model.specs.Views.{Elf}
-use Rattle.lk_obj_parts.specs.GroupMarks.{with_mark}
 
 -- how many entries of 24 bytes a section has in a file of these bytes
 abbrev pub entries_in : List ℕ → Shdr → ℕ

@@ -10,15 +10,16 @@ ghost use Rattle.std.specs.Prelude.{◌≡◌, ◌<◌, ◌^◌, ◌++◌, List,
 ghost use Rattle.std.specs.List.{list_any};
 ghost use Rattle.std.specs.Option.{option_copied};
 ghost use Rattle.lk_elf.specs.declared.symbol.Sym.{Sym};
+ghost use Rattle.lk_marks.specs.Marked.{is_marked};
 ghost use Rattle.lk_model.specs.Elf.{section_name};
 ghost use Rattle.lk_model.specs.Objects.{alignment_of, is_frames, piece_with, pieces_in};
 ghost use Rattle.lk_obj_parts.specs.ElfViews.{elf_from};
-ghost use Rattle.lk_obj_parts.specs.GroupMarks.{is_marked};
 ghost use Rattle.lk_obj_read.specs.PieceParts.{MarksServe, stored_bytes, is_four_zeros, is_terminator_reported, piece_reported};
 
 use crate::relocation_marks::relocated_sections;
 use lk_elf::numbers::SHT_NOBITS;
 use lk_elf::{Ehdr, Shdr};
+use lk_marks::Marks;
 use lk_model::layouts::{Class, SectionKey};
 use lk_model::summaries::{PieceInfo, PieceInfoList};
 use lk_obj_parts::shared_section_name;
@@ -159,23 +160,13 @@ fn piece_at(
 
 /// For each section, by its number, whether it has relocations, where a section may be a terminator; else no
 /// mark at all.
-fn needed_marks(alloc: Global, bytes: &[u8], sections: &[Shdr]) -> Result<Vec<bool>, NoMemory>
-    ensures { IfOk result (λ v. MarksServe bytes.now sections.now v.items) }
+fn needed_marks(alloc: Global, bytes: &[u8], sections: &[Shdr]) -> Result<Marks, NoMemory>
+    ensures { IfOk result (λ marks. MarksServe bytes.now sections.now marks) }
 {
     if !may_end_frames(bytes, sections) {
-        return Ok(Vec::new(alloc));
+        return Ok(Marks::new(alloc));
     }
     relocated_sections(alloc, bytes, sections)
-}
-
-/// Whether a section is marked.
-fn is_marked(marks: &[bool], n: usize) -> bool
-    ensures { result ≡ is_marked marks.now n }
-{
-    match marks.get(n) {
-        None => false,
-        Some(mark) => *mark,
-    }
 }
 
 /// Puts a piece at the end, where there is one.
@@ -207,7 +198,7 @@ pub fn pieces_of(
     let marks = needed_marks(alloc, file.as_slice(), sections)?;
     let mut pieces = PieceInfoList::new(alloc);
     for i in 1..sections.len() {
-        let relocated = is_marked(&marks, i);
+        let relocated = marks.is_marked(i as u32);
         let piece = piece_at(
             alloc,
             file,

@@ -5,15 +5,16 @@
 //! each section, none set; each section of relocations with an entry marks its target. Cost: one look at
 //! each section header, and one byte for each section.
 
-ghost use Rattle.std.specs.Prelude.{◌≡◌, ◌<◌, ◌^◌, length, drop, replicate, false, slice_get, Some, IfOk, ℕ, List};
+ghost use Rattle.std.specs.Prelude.{◌≡◌, ◌<◌, ◌^◌, [], length, drop, slice_get, Some, IfOk, ℕ, List};
 ghost use Rattle.lk_elf.specs.declared.file_header.Ehdr.{Ehdr};
 ghost use Rattle.lk_elf.specs.declared.symbol.Sym.{Sym};
+ghost use Rattle.lk_marks.specs.Marked.{is_marked, marks_of};
 ghost use Rattle.lk_obj_parts.specs.ElfViews.{elf_from};
-ghost use Rattle.lk_obj_parts.specs.GroupMarks.{is_marked, with_mark};
 ghost use Rattle.lk_obj_read.specs.RelocatedSections.{entries_in, has_entries, is_relocated, marked_after, marked_by};
 
 use lk_elf::Shdr;
 use lk_elf::numbers::{RELA_SIZE, SHT_RELA};
+use lk_marks::Marks;
 use lk_report::NoMemory;
 use std::alloc::Global;
 
@@ -36,28 +37,18 @@ fn has_entries(bytes: &[u8], section: &Shdr) -> bool
     section.sh_type == SHT_RELA && entries_in(bytes, section) != 0
 }
 
-/// Marks a section number; a number past the last has no mark.
-#[tactic(auto, using(lk_obj_parts::proofs::GroupsMarked::no_mark))]
-fn set_mark(marks: &mut [bool], n: u32)
-    ensures { marks.new ≡ with_mark marks.old n }
-{
-    if (n as usize) < marks.len() {
-        marks[n as usize] = true;
-    }
-}
-
 /// Marks the target of a section that has entries.
-fn mark_target(bytes: &[u8], marks: &mut [bool], section: &Shdr)
+fn mark_target(bytes: &[u8], marks: &mut Marks, section: &Shdr)
     ensures { marks.new ≡ marked_after bytes.now marks.old section.now }
 {
     if has_entries(bytes, section) {
-        set_mark(marks, section.sh_info);
+        marks.mark_within(section.sh_info);
     }
 }
 
 /// Marks the targets of all sections that have entries.
 #[tactic(auto, using(crate::proofs::RelocatedSections::next_target, crate::proofs::RelocatedSections::no_target_left))]
-fn mark_targets(bytes: &[u8], sections: &[Shdr], marks: &mut [bool])
+fn mark_targets(bytes: &[u8], sections: &[Shdr], marks: &mut Marks)
     ensures { marks.new ≡ marked_by bytes.now marks.old (drop 1 sections.now) }
 {
     for i in 1..sections.len() {
@@ -71,16 +62,10 @@ fn mark_targets(bytes: &[u8], sections: &[Shdr], marks: &mut [bool])
 ///
 /// # Errors
 /// Out of memory alone.
-pub fn relocated_sections(
-    alloc: Global,
-    bytes: &[u8],
-    sections: &[Shdr],
-) -> Result<Vec<bool>, NoMemory>
-    ensures { IfOk result (λ v. v.items ≡ marked_by bytes.now (replicate (length sections.now) false) (drop 1 sections.now)) }
+pub fn relocated_sections(alloc: Global, bytes: &[u8], sections: &[Shdr]) -> Result<Marks, NoMemory>
+    ensures { IfOk result (λ marks. marks ≡ marked_by bytes.now (marks_of [] (length sections.now)) (drop 1 sections.now)) }
 {
-    let Ok(mut marks) = Vec::from_elem(alloc, false, sections.len()) else {
-        return Err(NoMemory);
-    };
+    let mut marks = Marks::of(alloc, sections.len(), &[])?;
     mark_targets(bytes, sections, &mut marks);
     Ok(marks)
 }

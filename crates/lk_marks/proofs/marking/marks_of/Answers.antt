@@ -4,4 +4,4 @@ use Rattle.lk_marks.proofs.marking.marks_of.Goals as goal
 
 pub returns : goal.returns
 returns c =
-    marks_made c.args.numbers.now c.args.count c.loop-number.number-index c.loop-number.marks.items c.loop-number.invariant.count (search (rules)) c.loop-number.invariant.marks
+    marks_made c.args.numbers.now c.args.count c.loop-number.number-index c.loop-number.marks.items (search (rules)) c.loop-number.invariant

@@ -1,6 +1,6 @@
 use Rattle.std.specs.Prelude.{◌≡◌, drop}
 use Rattle.std.specs.List.{list_any}
-use Rattle.lk_obj_parts.specs.GroupMarks.{is_marked}
+use Rattle.lk_marks.specs.Marked.{is_marked}
 use Rattle.lk_obj_parts.specs.GroupParts.{members_in, words_in}
 use Rattle.lk_obj_parts.proofs.group_checks.is_any_marked.Given as goal
 

@@ -1,5 +1,5 @@
 use Rattle.std.specs.Prelude.{◌≡◌, drop, fold}
-use Rattle.lk_obj_parts.specs.GroupMarks.{with_mark}
+use Rattle.lk_marks.specs.Marked.{with_mark}
 use Rattle.lk_obj_parts.specs.GroupParts.{members_in, words_in}
 use Rattle.lk_obj_parts.proofs.group_checks.mark_members.Given as goal
 
