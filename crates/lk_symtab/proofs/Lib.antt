@@ -3,3 +3,5 @@ pub mod Entries
 pub mod SymbolsFound
 pub mod RowsStay
 pub mod NamesNumbered
+pub mod SymbolsNoted
+pub mod SymbolsNamed

@@ -83,7 +83,7 @@ next_place place size = by (nat_lt place size) refl
         let more : nat_lt (1 + place) (suc size) ≡ false = le-ltb (1 + place) (suc size) (omega arith) in
         λ i. cond (more i) (Some (1 + place)) None
 
-position_cons : {X : Type 0} → (p : X → Bool) (x : X) (xs : List X) → position p (x ∷ xs) ≡ cond (p x) (Some 0) (option_map suc (position p xs))
+pub position_cons : {X : Type 0} → (p : X → Bool) (x : X) (xs : List X) → position p (x ∷ xs) ≡ cond (p x) (Some 0) (option_map suc (position p xs))
 position_cons p x xs = by (p x)
   where
     by : (b : Bool) → cond (nat_lt (cond (not b) (1 + position_or_len p xs) 0) (length (x ∷ xs))) (Some (cond (not b) (1 + position_or_len p xs) 0)) None ≡ cond b (Some 0) (option_map suc (position p xs))
@@ -110,7 +110,7 @@ stays (row ∷ rows) name other c number h = by (bytes_eq other row.contribution
         ∙ later_place (test row.contributions) (number_of rows name) (number_of (with_symbol rows other c) name) number rest (sym (position_cons test row.contributions (all_symbols rows)) ∙ h)
 
 -- equal bytes are one name
-same_bytes : (x y : List ℕ) → bytes_eq x y ≡ true → x ≡ y
+pub same_bytes : (x y : List ℕ) → bytes_eq x y ≡ true → x ≡ y
 same_bytes x y e = (bytes_eq-Decides x y).0 e
 
 -- the row at a name's place has its symbols

@@ -1,4 +1,5 @@
 pub mod Bests
 pub mod NameRows
+pub mod NamesOfSymbols
 pub mod RowEntries
 pub mod SymbolLaws

@@ -1,10 +1,12 @@
 -- The rows and lk_model's names, which are those of the list of all symbols, in order of their first symbol.
 use Rattle.std.specs.Prelude.{◌≡◌, ℕ, Bool, true, false, cond, List, [], ◌∷◌, ◌++◌, map, fold, is_some, slice_get, slice_set, None, Some}
-use Rattle.std.specs.List.{list_any}
+use Rattle.std.specs.List.{list_any, AllByRecursion}
 use Rattle.lk_model.specs.declared.summaries.Contribution.{Contribution}
 use Rattle.lk_model.specs.declared.summaries.Contributions.{Contributions}
+use Rattle.lk_model.specs.Finding.{number_among}
 use Rattle.lk_model.specs.Symbols.{contributions_of, contributions_to, is_named}
 use Rattle.lk_symtab.specs.NameRows.{NameRow, all_symbols, number_of, with_made, with_symbol}
+use Rattle.lk_symtab.specs.NamesOfSymbols.{is_symbol, name_of_symbol}
 
 -- the rows with one more symbol, under its own name
 abbrev pub with_own : List NameRow → Contribution → List NameRow
@@ -55,3 +57,7 @@ MakesOne = (rows : List NameRow) (number : ℕ) → makes (with_made rows number
 
 abbrev pub MakingKeepsSymbols : Type 0
 MakingKeepsSymbols = (rows : List NameRow) (number : ℕ) → all_symbols (with_made rows number) ≡ all_symbols rows
+
+-- a symbol whose input and number only symbols of one name have has the number of that name
+abbrev pub SymbolsHaveNames : Type 0
+SymbolsHaveNames = (symbols : List Contribution) (input symbol : ℕ) (name : List ℕ) → list_any (is_symbol input symbol) symbols ≡ true → AllByRecursion (λ (c : Contribution). is_symbol input symbol c ≡ true → is_named name c ≡ true) symbols → name_of_symbol (contributions_of symbols) input symbol ≡ number_among (contributions_of symbols) name

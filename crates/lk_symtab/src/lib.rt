@@ -11,6 +11,8 @@
 
 mod bests;
 mod laws;
+mod name_table;
+mod names_by_symbol;
 mod rows;
 mod symbol_kinds;
 mod symbol_table;

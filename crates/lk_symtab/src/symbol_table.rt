@@ -1,16 +1,15 @@
-//! The table of the names: a map from each name to its row, looked up by hash. A name's number is the place
-//! of its row, and rows are never taken out, so a number stays.
+//! The table of the names, and which name each added symbol has.
 
-ghost use Rattle.std.specs.Prelude.{◌≡◌, ◌-◌, ◌^◌, ◌<◌, [], length, slice_get, None, Some, IfOk, IfSome};
+ghost use Rattle.std.specs.Prelude.{◌≡◌, ◌-◌, ◌^◌, ◌<◌, [], length, slice_get, Some, IfOk, IfSome};
 ghost use Rattle.std.specs.List.{IsDistinct};
 ghost use Rattle.std.specs.Option.{option_map};
 ghost use Rattle.std.specs.Str.{bytes_eq};
-ghost use Rattle.lk_model.specs.declared.summaries.Contributions.{Contributions};
 ghost use Rattle.lk_model.specs.References.{number_of_name};
-ghost use Rattle.lk_symtab.specs.NameRows.{all_symbols, row_names, number_of, row_needed, row_referred, row_visibility, row_winner, symbols_in, with_made, with_row, AddGives, AddsAt};
+ghost use Rattle.lk_symtab.specs.NameRows.{all_symbols, row_names, number_of, row_needed, row_referred, row_visibility, row_winner, symbols_in, with_made, AddGives};
+ghost use Rattle.lk_symtab.specs.NamesOfSymbols.{name_of_symbol};
 
-use crate::rows::Row;
-use indexmap::IndexMap;
+use crate::name_table::NameTable;
+use crate::names_by_symbol::NamesBySymbol;
 use lk_model::summaries::{Contribution, Contributions, Global as Symbol, Home, Kind, Winner};
 use lk_report::{Name, NoMemory};
 use std::alloc::Global;
@@ -21,20 +20,20 @@ use std::marker::Model;
 #[derive(Drop)]
 pub struct SymTab {
     alloc: Global,
-    rows: IndexMap<Name, Row>,
+    table: NameTable,
+    symbols: NamesBySymbol,
 }
 
 impl Model for SymTab {
     ghost use Rattle.std.specs.Prelude.{List};
-    ghost use Rattle.indexmap.specs.IndexMap.{values};
     ghost use Rattle.lk_symtab.specs.NameRows.{NameRow};
-    ghost use Rattle.lk_symtab.specs.RowEntries.{IsTable};
+    ghost use Rattle.lk_symtab.specs.NamesOfSymbols.{AreNamesOf};
 
     ghost Value = { List NameRow };
 
-    ghost view = { λ t. values t.rows };
+    ghost view = { λ t. t.table };
 
-    ghost invariant = { λ t. IsTable t.rows.entries };
+    ghost invariant = { λ t. AreNamesOf t.table t.symbols };
 }
 
 /// A symbol with another home.
@@ -48,12 +47,14 @@ fn copy_at_home(alloc: Global, global: &Symbol, home: Home) -> Result<Symbol, No
 
 impl SymTab {
     /// No name. What is added later is copied by this allocator.
+    #[tactic(auto, using(crate::proofs::SymbolsNoted::none_noted))]
     pub fn new(alloc: Global) -> Self
         ensures { result ≡ [] }
     {
         SymTab {
             alloc,
-            rows: IndexMap::new(alloc),
+            table: NameTable::new(alloc),
+            symbols: NamesBySymbol::new(alloc),
         }
     }
 
@@ -62,19 +63,15 @@ impl SymTab {
         ensures count { result ≡ length self.now }
         ensures distinct { IsDistinct bytes_eq (row_names self.now) }
     {
-        self.rows.len() as u32
+        self.table.len()
     }
 
     /// The number of a name; none exactly where no symbol was added under it.
-    #[tactic(auto, using(crate::proofs::Entries::number_is))]
     pub fn find(&self, name: &Name) -> Option<u32>
         ensures number { result ≡ number_of self.now name.now }
         ensures within { IfSome result (λ number. number < length self.now) }
     {
-        match self.rows.get_index_of(name) {
-            Some(n) => Some(n as u32),
-            None => None,
-        }
+        self.table.find(name)
     }
 
     /// The number of a name, or how many names there are where no symbol was added under it.
@@ -83,6 +80,25 @@ impl SymTab {
         ensures { result ≡ number_of_name (all_symbols self.now) name.now }
     {
         self.find(name).unwrap_or(self.len())
+    }
+
+    /// The number of the name of an added symbol, by its input and symbol number (gABI "Symbol Table"): the first
+    /// name that has such a symbol. No text is looked at.
+    pub fn name_of_symbol(&self, input: u32, symbol: u32) -> Option<u32>
+        ensures { result ≡ name_of_symbol (all_symbols self.now) input symbol }
+    {
+        self.symbols.name_at(input, symbol)
+    }
+
+    /// Makes room for the symbols of an input with numbers up to this one. No name changes.
+    ///
+    /// # Errors
+    /// Out of memory.
+    #[tactic(auto, using(crate::proofs::SymbolsNoted::still_noted))]
+    pub fn make_room(&mut self, input: u32, symbol: u32) -> Result<(), NoMemory>
+        ensures { self.new ≡ self.old }
+    {
+        self.symbols.make_room(input, symbol)
     }
 
     /// Adds a symbol of an input under a name, after all that were added before it: the name's number, which
@@ -107,7 +123,6 @@ impl SymTab {
     ///
     /// # Errors
     /// Out of memory. The table is then unchanged.
-    #[tactic(auto, using(crate::proofs::Entries::number_is))]
     pub fn add_at_home(
         &mut self,
         name: &Name,
@@ -120,39 +135,28 @@ impl SymTab {
         ensures { AddGives self.old name.now (record { input = input; kind = kind; global = record global.now { home = home } }) result self.new }
     {
         let global = copy_at_home(self.alloc, global, home)?;
-        let symbol = Contribution {
-            input,
-            kind,
-            global,
-        };
-        match self.rows.get_index_of(name) {
-            Some(n) => self.add_again(n, symbol),
-            None => self.add_first(name, symbol),
-        }
+        self.add_symbol(
+            name,
+            Contribution {
+                input,
+                kind,
+                global,
+            },
+        )
     }
 
-    /// Adds a symbol to a row that is there.
-    fn add_again(&mut self, n: usize, symbol: Contribution) -> Result<u32, NoMemory>
-        requires { n < length self.old }
-        ensures { AddsAt self.old n symbol result self.new }
+    /// Adds a symbol under a name, and notes the name's number for it.
+    #[tactic(auto, using(crate::proofs::SymbolsNoted::still_noted, crate::proofs::SymbolsNoted::one_noted))]
+    fn add_symbol(&mut self, name: &Name, contribution: Contribution) -> Result<u32, NoMemory>
+        requires { length self.old < 2 ^ 32 - 1 }
+        ensures { AddGives self.old name.now contribution result self.new }
     {
-        let (_, row) = self.rows.pair_mut(n);
-        row.push(symbol)?;
-        Ok(n as u32)
-    }
-
-    /// Adds the first symbol of a name.
-    fn add_first(&mut self, name: &Name, symbol: Contribution) -> Result<u32, NoMemory>
-        requires few { length self.old < 2 ^ 32 - 1 }
-        requires absent { number_of self.old name.now ≡ None }
-        ensures { AddGives self.old name.now symbol result self.new }
-    {
-        let row = Row::first(self.alloc, name, symbol)?;
-        let key = name.copy(self.alloc)?;
-        let Ok((number, _)) = self.rows.insert_full(key, row) else {
-            return Err(NoMemory);
-        };
-        Ok(number as u32)
+        let input = contribution.input;
+        let symbol = contribution.global.symbol;
+        self.symbols.make_room(input, symbol)?;
+        let number = self.table.add(name, contribution)?;
+        self.symbols.note(input, symbol, number);
+        Ok(number)
     }
 
     /// The symbols of the name with a number, in the order in which they were added.
@@ -160,7 +164,7 @@ impl SymTab {
         requires { number < length self.now }
         ensures { option_map symbols_in (slice_get self.now number) ≡ Some result.now }
     {
-        self.row(number).contributions()
+        self.table.row(number).contributions()
     }
 
     /// The definition that the name with a number means.
@@ -168,7 +172,7 @@ impl SymTab {
         requires { number < length self.now }
         ensures { option_map row_winner (slice_get self.now number) ≡ Some result }
     {
-        self.row(number).winner()
+        self.table.row(number).winner()
     }
 
     /// The visibility of the name with a number: the most constraining one of its symbols in objects.
@@ -176,7 +180,7 @@ impl SymTab {
         requires { number < length self.now }
         ensures { option_map row_visibility (slice_get self.now number) ≡ Some result }
     {
-        self.row(number).visibility()
+        self.table.row(number).visibility()
     }
 
     /// Whether an object refers to the name with a number.
@@ -184,7 +188,7 @@ impl SymTab {
         requires { number < length self.now }
         ensures { option_map row_referred (slice_get self.now number) ≡ Some result }
     {
-        self.row(number).is_referred()
+        self.table.row(number).is_referred()
     }
 
     /// Whether an object has an undefined GLOBAL symbol of the name with a number.
@@ -192,23 +196,15 @@ impl SymTab {
         requires { number < length self.now }
         ensures { option_map row_needed (slice_get self.now number) ≡ Some result }
     {
-        self.row(number).is_needed()
+        self.table.row(number).is_needed()
     }
 
     /// Says that the linker makes the name with a number.
+    #[tactic(auto, using(crate::proofs::SymbolsNoted::noted_when_made))]
     pub fn make(&mut self, number: u32)
         requires { number < length self.old }
         ensures { self.new ≡ with_made self.old number }
     {
-        let (_, row) = self.rows.pair_mut(number as usize);
-        row.make();
-    }
-
-    /// The row with a number.
-    fn row(&self, number: u32) -> &Row
-        requires { number < length self.now }
-        ensures { slice_get self.now number ≡ Some result.now }
-    {
-        &self.rows[number as usize]
+        self.table.make(number);
     }
 }

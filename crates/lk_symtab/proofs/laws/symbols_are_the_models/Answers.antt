@@ -1,5 +1,6 @@
 use Rattle.lk_symtab.proofs.RowsStay.{at_number, found, kept, none_made, one_made, stays, without_number}
 use Rattle.lk_symtab.proofs.SymbolsFound.{goes_on, table}
+use Rattle.lk_symtab.proofs.SymbolsNamed.{symbols_have_names}
 use Rattle.lk_symtab.proofs.laws.symbols_are_the_models.Goals as goal
 
 pub returns-clause-table : goal.returns-clause-table
@@ -28,3 +29,6 @@ returns-clause-one_made c = one_made
 
 pub returns-clause-kept : goal.returns-clause-kept
 returns-clause-kept c = kept
+
+pub returns-clause-named : goal.returns-clause-named
+returns-clause-named c = symbols_have_names

@@ -1,7 +1,7 @@
 use Rattle.std.proofs.Common.{ap}
 use Rattle.lk_symtab.proofs.Entries.{written}
 use Rattle.lk_symtab.specs.NameRows.{NameRow, made_row}
-use Rattle.lk_symtab.proofs.symbol_table.SymTab.make.Goals as goal
+use Rattle.lk_symtab.proofs.name_table.NameTable.make.Goals as goal
 
 -- the row with the number is made
 pub invariant_of-self : goal.invariant_of-self

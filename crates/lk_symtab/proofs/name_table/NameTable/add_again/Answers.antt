@@ -2,7 +2,7 @@ use Rattle.std.proofs.Common.{refl, ap, ◌∙◌}
 use Rattle.std.specs.Map.{values_of}
 use Rattle.lk_symtab.specs.NameRows.{NameRow, row_with}
 use Rattle.lk_symtab.proofs.Entries.{kept_adds, written, written_again}
-use Rattle.lk_symtab.proofs.symbol_table.SymTab.add_again.Goals as goal
+use Rattle.lk_symtab.proofs.name_table.NameTable.add_again.Goals as goal
 
 -- after out of memory the row is as it was
 pub invariant_of-self : goal.invariant_of-self

@@ -1,5 +1,5 @@
 use Rattle.lk_symtab.proofs.Entries.{added_last}
-use Rattle.lk_symtab.proofs.symbol_table.SymTab.add_first.Goals as goal
+use Rattle.lk_symtab.proofs.name_table.NameTable.add_first.Goals as goal
 
 -- the new row is last
 pub invariant_of-self-2 : goal.invariant_of-self-2
