@@ -1,5 +1,4 @@
 pub mod Numbers
-pub mod RowsNoted
 pub mod Spelling
 pub mod WordsSpelled
 pub mod TextsNoted

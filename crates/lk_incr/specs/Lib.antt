@@ -1,5 +1,4 @@
 pub mod Words
-pub mod PlacedRows
 pub mod NotedTexts
 pub mod RecordParts
 pub mod TailParts

@@ -10,9 +10,9 @@ ghost use Rattle.lk_incr.specs.RecordParts.{nameless, parts_of};
 ghost use Rattle.lk_incr.specs.TailParts.{records_with};
 
 use crate::noting::note_inputs_section;
-use crate::placed_pieces::PlacedPieces;
 use crate::putting::put_inputs_section;
 use crate::record_parts::RecordParts;
+use lk_piece_rows::PieceRows;
 use lk_report::{Bytes, NoMemory};
 use lk_string_table::StringTable;
 use std::alloc::Global;
@@ -46,7 +46,7 @@ fn inputs_of_records(
 ) -> Result<Bytes, NoMemory>
     ensures { IfOk result (λ bytes. bytes ≡ spelled (offset_in table.now) (inputs_fields (nameless parts.now))) }
 {
-    let placed = PlacedPieces::of(alloc, parts.placement)?;
+    let placed = PieceRows::of(alloc, parts.placement)?;
     let mut out = Vec::new(alloc);
     put_inputs_section(&mut out, table, &placed, parts)?;
     Bytes::from_vec(out)

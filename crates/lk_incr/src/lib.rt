@@ -13,7 +13,7 @@
 //!
 //! The parts are read twice: the first walk (`noting`) fills the string table (lk_string_table), the second
 //! (`putting`) writes the records, each as words of eight bytes (`words`) with one test for room. A text's
-//! offset and a piece's row are looked up by hash, so both walks are linear.
+//! offset is looked up by hash and a piece's row by number (lk_piece_rows), so both walks are linear.
 #![tactic(auto)]
 
 mod appending;
@@ -22,7 +22,6 @@ mod input_heads;
 mod inputs_section;
 mod noting;
 mod pieces;
-mod placed_pieces;
 mod putting;
 mod record_parts;
 mod summaries;

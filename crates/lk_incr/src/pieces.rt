@@ -7,11 +7,11 @@ ghost use Rattle.lk_model.specs.Texts.{offset_in};
 ghost use Rattle.lk_incr.specs.Words.{words_of};
 
 use crate::heads::bit;
-use crate::placed_pieces::PlacedPieces;
 use crate::words::{Word, long, pair, put_words};
 use lk_model::classes::class_number;
 use lk_model::layouts::PieceRow;
 use lk_model::summaries::PieceInfo;
+use lk_piece_rows::PieceRows;
 use lk_report::NoMemory;
 use lk_string_table::StringTable;
 
@@ -22,7 +22,7 @@ const NO_SECTION: u64 = 0xffff_ffff;
 /// is kept, its size, alignment and name, and its flags.
 fn piece_words(
     table: &StringTable<'_>,
-    placed: &PlacedPieces<'_>,
+    placed: &PieceRows<'_>,
     input: u64,
     piece: &PieceInfo,
 ) -> [Word; 5]
@@ -43,7 +43,7 @@ fn piece_words(
 pub(crate) fn put_piece(
     out: &mut Vec<u8>,
     table: &StringTable<'_>,
-    placed: &PlacedPieces<'_>,
+    placed: &PieceRows<'_>,
     input: u64,
     piece: &PieceInfo,
 ) -> Result<(), NoMemory>

@@ -13,11 +13,11 @@ use crate::appending::put_short;
 use crate::heads::{put_head, put_section};
 use crate::input_heads::put_input_head;
 use crate::pieces::put_piece;
-use crate::placed_pieces::PlacedPieces;
 use crate::record_parts::{RecordParts, RecordedInput};
 use crate::summaries::{put_global, put_group_head};
 use lk_model::layouts::SectionRow;
 use lk_model::summaries::{Global, Group, PieceInfo};
+use lk_piece_rows::PieceRows;
 use lk_report::NoMemory;
 use lk_string_table::StringTable;
 
@@ -41,7 +41,7 @@ fn put_sections(
 fn put_pieces(
     out: &mut Vec<u8>,
     table: &StringTable<'_>,
-    placed: &PlacedPieces<'_>,
+    placed: &PieceRows<'_>,
     input: u64,
     pieces: &[PieceInfo],
 ) -> Result<(), NoMemory>
@@ -102,7 +102,7 @@ fn put_groups(out: &mut Vec<u8>, table: &StringTable<'_>, groups: &[Group]) -> R
 fn put_input(
     out: &mut Vec<u8>,
     table: &StringTable<'_>,
-    placed: &PlacedPieces<'_>,
+    placed: &PieceRows<'_>,
     number: u64,
     input: &RecordedInput<'_>,
 ) -> Result<(), NoMemory>
@@ -120,7 +120,7 @@ fn put_input(
 fn put_inputs(
     out: &mut Vec<u8>,
     table: &StringTable<'_>,
-    placed: &PlacedPieces<'_>,
+    placed: &PieceRows<'_>,
     inputs: &[RecordedInput<'_>],
 ) -> Result<(), NoMemory>
     ensures { OnOk result (out.new.items ≡ out.old.items ++ spelled (offset_in table.now) (flat_map (input_fields placed.now) (enumerate_from 0 inputs.now))) }
@@ -135,7 +135,7 @@ fn put_inputs(
 pub(crate) fn put_inputs_section(
     out: &mut Vec<u8>,
     table: &StringTable<'_>,
-    placed: &PlacedPieces<'_>,
+    placed: &PieceRows<'_>,
     parts: &RecordParts<'_>,
 ) -> Result<(), NoMemory>
     requires { placed.now ≡ parts.now.placement }
