@@ -1,13 +1,16 @@
 -- Marks that are set one after another are those of the numbers (this project's own).
 use Rattle.std.proofs.Common.{◌≡◌, refl, sym, ap, ◌∙◌, add-one, arith, ◌+◌, ◌<◌, ◌≤◌, ℕ, zero, suc, Bool, true, false, cond, inl, inr, ◌||◌, nat_eq, List, [], ◌∷◌, ◌++◌, append_assoc, append-nil, drop, drop-cons, ext_get_or, fold, get_or, get_or-set_other, get_or-set_same, length, length-set, map, replicate, slice_get, Some}
-use Rattle.std.specs.List.{range_with_len}
+use Rattle.std.specs.List.{list_any, range_with_len}
 use Rattle.std.proofs.lemmas.Bool.{cases_eq, eq-eqb, ne_eqb}
 use Rattle.std.proofs.lemmas.List.{drop_all}
 use Rattle.std.proofs.lemmas.List.Folds.{list_any-append}
 use Rattle.std.proofs.lemmas.List.FromFn.{get_or-map-range_with_len, length-map-range_with_len}
 use Rattle.std.proofs.lemmas.Option.{slice_get-get_or}
-use Rattle.lk_model.specs.Numbered.{is_number_in}
 use Rattle.lk_marks.specs.Marked.{is_marked, marks_of, with_mark}
+
+-- whether a number is one of these
+abbrev is_number_in : List ℕ → ℕ → Bool
+is_number_in numbers n = list_any (nat_eq n) numbers
 
 or_none : (b : Bool) → (b || false) ≡ b
 or_none true = refl
@@ -51,10 +54,10 @@ mark_set marks n k h = elim (cases_eq k n) [
 pub marks_length : (numbers : List ℕ) (count : ℕ) → length (marks_of numbers count) ≡ count
 marks_length numbers count = length-map-range_with_len (is_number_in numbers) 0 count
 
-pub mark_got : (numbers : List ℕ) (count k : ℕ) → k < count → get_or (marks_of numbers count) k false ≡ is_number_in numbers k
+pub mark_got : (numbers : List ℕ) (count k : ℕ) → k < count → get_or (marks_of numbers count) k false ≡ list_any (nat_eq k) numbers
 mark_got numbers count k l = get_or-map-range_with_len (is_number_in numbers) 0 count k k false l (omega arith)
 
-pub mark_reported : (numbers : List ℕ) (count k : ℕ) → k < count → is_marked (marks_of numbers count) k ≡ is_number_in numbers k
+pub mark_reported : (numbers : List ℕ) (count k : ℕ) → k < count → is_marked (marks_of numbers count) k ≡ list_any (nat_eq k) numbers
 mark_reported numbers count k l =
     let got : slice_get (marks_of numbers count) k ≡ Some (get_or (marks_of numbers count) k false) = slice_get-get_or (marks_of numbers count) k false (omega (arith, l, marks_length numbers count)) in
     rw got (mark_got numbers count k l)
