@@ -37,4 +37,7 @@ pub use section_checks::{is_cut_off, is_of_type, sections_fault, table_fault};
 pub use signatures::signature_of;
 pub use symbol_checks::{symbol_table_fault, symbols_fault};
 pub use symbols::{globals_of, local_of, read_symbols, symbol_at, symbol_table};
-pub use texts::{header_at, name_at, rest_from, section_bytes, section_name, shared_name, shared_section_name, text_in};
+pub use texts::{
+    header_at, name_at, rest_from, section_bytes, section_name, shared_name, shared_section_name,
+    text_in,
+};

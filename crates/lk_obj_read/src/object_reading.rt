@@ -56,7 +56,13 @@ pub fn read_object(alloc: Global, bytes: Bytes) -> Result<Object, ReadFailure>
 {
     let file = bytes.as_slice();
     let parts = sound_parts(alloc, file)?;
-    let summary = read_summary(alloc, &bytes, &parts.header, &parts.sections, &parts.symbols)?;
+    let summary = read_summary(
+        alloc,
+        &bytes,
+        &parts.header,
+        &parts.sections,
+        &parts.symbols,
+    )?;
     Ok(object_with(alloc, bytes, parts.sections, summary)?)
 }
 

@@ -6,4 +6,4 @@ use Rattle.lk_obj_read.proofs.pieces.pieces_of.Goals as goal
 
 pub returns : goal.returns
 returns c = λ symbols.
-    pieces_done (elf_from c.args.bytes.now c.args.header.now c.args.sections.now symbols) c.loop-i.pieces c.loop-i.i (omega arith) (c.loop-i.invariant symbols)
+    pieces_done (elf_from c.args.file.now c.args.header.now c.args.sections.now symbols) c.loop-i.pieces c.loop-i.i (omega arith) (c.loop-i.invariant symbols)

@@ -6,5 +6,5 @@ use Rattle.lk_obj_read.proofs.pieces.pieces_of.Given as goal
 
 abbrev pub invariant-loop-i : goal.invariant-loop-i
 invariant-loop-i l = (symbols : List Sym) →
-    l.pieces ++ pieces_from (elf_from l.bytes l.header l.sections symbols) l.i (drop l.i l.sections)
-    ≡ pieces_from (elf_from l.bytes l.header l.sections symbols) 1 (drop 1 l.sections)
+    l.pieces ++ pieces_from (elf_from l.file l.header l.sections symbols) l.i (drop l.i l.sections)
+    ≡ pieces_from (elf_from l.file l.header l.sections symbols) 1 (drop 1 l.sections)
