@@ -15,3 +15,4 @@ pub mod RowsMade
 pub mod FaultsOfRows
 pub mod ResolutionFound
 pub mod Seen
+pub mod SymbolsByNumber

@@ -1,18 +1,16 @@
 -- The search by names goes on by one member that is asked: what holds before each turn holds after it.
-use Rattle.std.proofs.Common.{◌≡◌, refl, sym, ap, ◌∙◌, subst, arith, ℕ, zero, suc, ◌+◌, ◌<◌, ◌≤◌, nat_eq, Bool, true, false, cond, not, ◌||◌, ◌&&◌, List, [], ◌∷◌, ◌++◌, length, map, get_or, Option, Some, None, slice_set, inl, inr, ◌⊎◌}
+use Rattle.std.proofs.Common.{◌≡◌, refl, sym, ap, ◌∙◌, subst, arith, ℕ, zero, suc, ◌<◌, nat_eq, Bool, true, false, not, ◌||◌, ◌&&◌, List, [], ◌∷◌, length, map, get_or, Option, Some, None, slice_set, inl, inr}
 use Rattle.std.specs.Bool.{OnFalse}
-use Rattle.std.specs.List.{list_any}
 use Rattle.std.proofs.lemmas.Bool.{eqb-true}
 use Rattle.std.proofs.lemmas.List.{append-nil}
 use Rattle.std.proofs.Math.ListN.{length-map}
 use Rattle.lk_comdat.specs.Claims.{signatures_of}
 use Rattle.lk_model.specs.declared.summaries.Global.{Global}
-use Rattle.lk_model.specs.Numbered.{Numbered}
 use Rattle.lk_resolve.specs.declared.definers.Definers.{Definers}
 use Rattle.lk_resolve.specs.declared.members.Member.{Member}
 use Rattle.lk_resolve.specs.declared.turns.Turns.{Turns}
-use Rattle.lk_resolve.specs.Definers.{DefinersAre, defines_among, defines_in, is_definer}
-use Rattle.lk_resolve.specs.NameSearches.{AreDefiners, AskedAt, NextAdded, TurnsGiven, WantedAreDue, is_asked_for, queue_at, unwanted_in, waiting_in, wants_at, wants_in}
+use Rattle.lk_resolve.specs.Definers.{DefinersAre, defines_in, is_definer}
+use Rattle.lk_resolve.specs.NameSearches.{AreDefiners, AskedAt, NextAdded, TurnsGiven, WantedAreDue, is_asked_for, queue_at, unwanted_in, waiting_in, wants_at}
 use Rattle.lk_resolve.specs.Searches.{member_as, members_as, searched}
 use Rattle.lk_resolve.specs.States.{State, with_input}
 use Rattle.lk_resolve.specs.Turns.{is_due, is_passed}

@@ -1,6 +1,6 @@
 -- A member that was not wanted and is wanted once an input was added defines a name that was not wanted and
 -- is then, and this is the name of a symbol of the input.
-use Rattle.std.proofs.Common.{◌≡◌, refl, sym, ap, ◌∙◌, ℕ, ◌+◌, nat_eq, nat_lt, ◌==◌, Bool, true, false, cond, not, ◌||◌, ◌&&◌, List, [], ◌∷◌, ◌++◌, map, filter, find, fold, length, Option, Some, None, is_some, option_and_then, slice_get, inl, inr, ◌⊎◌}
+use Rattle.std.proofs.Common.{◌≡◌, refl, sym, ap, ◌∙◌, ℕ, ◌+◌, nat_eq, nat_lt, ◌==◌, Bool, true, false, cond, not, ◌||◌, ◌&&◌, List, [], ◌∷◌, ◌++◌, find, fold, length, Some, None, is_some, option_and_then, slice_get, inl, inr, ◌⊎◌}
 use Rattle.std.specs.Cmp.{nat_eq_equiv}
 use Rattle.std.specs.Cmp.Lexicographic.{nat_list_eq_equiv}
 use Rattle.std.specs.List.{list_any, position_or_len}
@@ -28,7 +28,7 @@ use Rattle.lk_resolve.specs.Definers.{defines, defines_among}
 use Rattle.lk_resolve.specs.LeftSections.{dropped_once, left_in, sections_without, symbols_in}
 use Rattle.lk_resolve.specs.NameSearches.{names_in, unwanted_in, wants_in}
 use Rattle.lk_resolve.specs.States.{State, asked_by, with_input}
-use Rattle.lk_resolve.specs.Wanted.{defines_wanted, is_home_placed, is_placed_in, wants, wants_name, wants_row}
+use Rattle.lk_resolve.specs.Wanted.{defines_wanted, is_home_placed, is_placed_in, wants, wants_row}
 use Rattle.lk_resolve.proofs.ListSets.{any-distinct, or_true}
 use Rattle.lk_resolve.proofs.SectionsLeft.{without-any}
 use Rattle.lk_symtab.specs.NameRows.{NameRow, all_symbols, new_row, number_of, row_with, symbols_in as row_symbols, with_symbol}

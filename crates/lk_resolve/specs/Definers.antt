@@ -6,8 +6,6 @@ use Rattle.std.specs.Map.{lookup}
 use Rattle.std.specs.Str.{bytes_eq}
 use Rattle.indexmap.specs.IndexMap.{insert_entry, set_value_at}
 use Rattle.lk_model.specs.declared.summaries.Global.{Global}
-use Rattle.lk_model.specs.declared.summaries.Home.{Home}
-use Rattle.lk_model.specs.declared.summaries.Home.TheVariants as home
 use Rattle.lk_resolve.specs.declared.definers.Definers.{Definers}
 use Rattle.lk_resolve.specs.declared.members.Member.{Member}
 use Rattle.lk_resolve.specs.Wanted.{is_home_placed}

@@ -4,6 +4,7 @@ pub mod Wanted
 pub mod Turns
 pub mod Definers
 pub mod Searches
+pub mod NamedSymbols
 pub mod NameSearches
 pub mod MadeRows
 pub mod RowFaults

@@ -26,6 +26,16 @@ fn home_in(left: &Sections, home: Home) -> Home
     }
 }
 
+/// Makes room for the symbols of an input, whose numbers rise, at once.
+fn make_room(names: &mut SymTab, input: u32, symbols: &[Symbol]) -> Result<(), NoMemory>
+    ensures { names.new ≡ names.old }
+{
+    match symbols.last() {
+        None => Ok(()),
+        Some(last) => names.make_room(input, last.symbol),
+    }
+}
+
 /// Adds the symbols of an input, each under its name. A name whose number has no room in 32 bits is answered
 /// as out of memory.
 pub fn add_symbols(
@@ -37,6 +47,7 @@ pub fn add_symbols(
 ) -> Result<(), NoMemory>
     ensures { OnOk result (names.new ≡ fold with_own names.old (symbols_in left.now.keys input kind symbols.now)) }
 {
+    make_room(names, input, symbols)?;
     for symbol in symbols {
         if names.len() == u32::MAX {
             return Err(NoMemory);
