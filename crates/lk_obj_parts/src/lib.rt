@@ -3,8 +3,8 @@
 //!
 //! The parts: the section table (`read_sections`, `table_fault`, `sections_fault`), the symbols
 //! (`read_symbols`, `symbol_table_fault`, `symbols_fault`, `globals_of`, `local_of`), the relocations
-//! (`relas_under`, `rela_faults`, `overlap_fault`), the groups (`groups_fault`, `groups_of`). Which sections are
-//! pieces lk_outsec says, and how wide a field is lk_reloc.
+//! (`entry_count`, `rela_at`, `rela_faults`, `overlap_fault`), the groups (`groups_fault`, `groups_of`). Which
+//! sections are pieces lk_outsec says, and how wide a field is lk_reloc.
 //! Each contract cites the definition of that name in lk_model (Elf, Pieces, Objects, ObjectChecks), at
 //! the file that `elf_from` in specs/ElfViews makes of the bytes and of what was read from them.
 //!
@@ -32,7 +32,7 @@ pub use group_checks::groups_fault;
 pub use groups::{groups_of, word_under};
 pub use overlaps::overlap_fault;
 pub use relocation_checks::rela_faults;
-pub use relocations::relas_under;
+pub use relocations::{entry_count, rela_at};
 pub use section_checks::{is_cut_off, is_of_type, sections_fault, table_fault};
 pub use signatures::signature_of;
 pub use symbol_checks::{symbol_table_fault, symbols_fault};

@@ -2,6 +2,7 @@ pub mod ObjectFaults
 pub mod PiecesReported
 pub mod RelocatedSections
 pub mod StacksAsked
+pub mod RelaLists
 pub mod RelocationLists
 pub mod ObjectsStored
 pub mod LocalsRead

@@ -12,6 +12,8 @@ use Rattle.lk_elf.specs.declared.relocation.Rela.{Rela}
 use Rattle.lk_model.specs.Objects.{relas_under, relocations_in}
 use Rattle.lk_model.specs.Views.{Elf}
 use Rattle.lk_obj_parts.specs.ElfViews.{elf_from}
+use Rattle.lk_obj_parts.specs.RelocationEntries.{entry_count}
+use Rattle.lk_obj_read.specs.RelaLists.{relas_at}
 use Rattle.lk_obj_read.specs.RelocationLists.{is_on, relas_of, relas_on, with_relas}
 
 -- ---- one section more
@@ -58,6 +60,9 @@ put_at bytes lists section d new entries t is within reported e = ⊎_elim (λ p
     away apart differ =
         get_or-set_other lists section.sh_info t new [] (λ same. differ (sym same))
         ∙ ap (λ b. cond b (slice_index_or lists t [] ++ relas_of bytes section) (slice_index_or lists t [])) (sym (tested ∙ apart))
+
+pub listed : (file bytes : List ℕ) (section : Shdr) (count : ℕ) → bytes ≡ file → count ≡ entry_count bytes section → relas_at file section.sh_offset count ≡ relas_of file section
+listed file bytes section count same reported = ap (relas_at file section.sh_offset) (reported ∙ ap (λ b. entry_count b section) same)
 
 -- ---- the empty lists
 

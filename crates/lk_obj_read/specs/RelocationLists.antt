@@ -1,15 +1,15 @@
 -- The relocations of the sections of an object (gABI "Relocation", sh_info) by their bytes alone: the entries
 -- of each section of relocations, and those of a target in several sections.
-use Rattle.std.specs.Prelude.{ℕ, ◌==◌, Bool, ◌&&◌, cond, List, ◌++◌, filter, flat_map, map}
-use Rattle.std.specs.List.{range_with_len}
+use Rattle.std.specs.Prelude.{ℕ, ◌==◌, Bool, ◌&&◌, cond, List, ◌++◌, filter, flat_map}
 use Rattle.lk_elf.specs.Numbers.{sht_rela}
 use Rattle.lk_elf.specs.declared.section_header.Shdr.{Shdr}
 use Rattle.lk_elf.specs.declared.relocation.Rela.{Rela}
-use Rattle.lk_obj_parts.specs.RelocationEntries.{entry_at, entry_count}
+use Rattle.lk_obj_parts.specs.RelocationEntries.{entry_count}
+use Rattle.lk_obj_read.specs.RelaLists.{relas_at}
 
 -- the entries of a section of relocations in a file of these bytes
 abbrev pub relas_of : List ℕ → Shdr → List Rela
-relas_of bytes header = map (entry_at bytes header) (range_with_len 0 (entry_count bytes header))
+relas_of bytes header = relas_at bytes header.sh_offset (entry_count bytes header)
 
 -- a section that holds relocations on a target
 abbrev pub is_on : ℕ → Shdr → Bool

@@ -33,8 +33,8 @@ fn object_with(
     requires summary { summary ≡ summary_in (elf_of bytes) }
     ensures { IfOk result (λ object. object ≡ bytes) }
 {
+    let relocations = relocations_by_target(alloc, &bytes, &sections)?;
     let file = bytes.as_slice();
-    let relocations = relocations_by_target(alloc, file, &sections)?;
     let symbols = place_of_symbols(file, &sections);
     Ok(Object {
         bytes,
@@ -46,7 +46,7 @@ fn object_with(
 }
 
 /// Reads a file as an object (gABI "Object Files"). The object takes the bytes, and copies none of them;
-/// beside them it takes 24 bytes a relocation, about 100 bytes a section, and its summary. At most 96 GiB.
+/// beside them it takes about 120 bytes a section, and its summary. At most 96 GiB.
 ///
 /// # Errors
 /// The file's first fault, or out of memory, which is tied to no cause. The bytes are then dropped.
@@ -91,7 +91,7 @@ fn sections_of(alloc: Global, bytes: &[u8]) -> Result<Vec<Shdr>, NoMemory>
 
 /// The object of a file that has no fault, and whose summary this is, as `summarize` gave it: nothing is checked
 /// anew, and no name is read. The object takes the bytes and the summary, and copies neither; beside them it takes
-/// 24 bytes a relocation and about 100 bytes a section.
+/// about 120 bytes a section.
 ///
 /// # Errors
 /// Out of memory alone. The bytes are then dropped.

@@ -14,7 +14,7 @@ ghost use Rattle.lk_obj_parts.specs.TargetRows.{room_of};
 
 use crate::local_symbols::local_at;
 use crate::pieces::stored_bytes;
-use crate::relocation_lists::RelaList;
+use crate::rela_lists::RelaList;
 use crate::symbol_places::SymbolPlace;
 use lk_elf::Shdr;
 use lk_elf::numbers::SHF_TLS;

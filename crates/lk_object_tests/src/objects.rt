@@ -169,9 +169,12 @@ pub const RELOCATIONS: [Rela; 2] = [
 fn a_piece_has_its_bytes_and_relocations(rt: HostRuntime) -> Result<(), ReadFailure> {
     let object = read(rt.alloc(), &OBJECT)?;
     for piece in object.summary().pieces.as_slice() {
-        let relocations = object.relocations(piece.section).as_slice();
+        let relocations = object.relocations(piece.section);
         assert_eq!(rt; object.piece_bytes(piece.section), [0x90; 16].as_slice());
-        assert_eq!(rt; relocations, RELOCATIONS.as_slice());
+        assert_eq!(rt; relocations.len(), RELOCATIONS.len());
+        for k in 0..relocations.len() {
+            assert_eq!(rt; Some(relocations.at(k)), RELOCATIONS.get(k).copied());
+        }
     }
     Ok(())
 }

@@ -4,6 +4,7 @@ pub mod NumbersReported
 pub mod SymbolNumbersReported
 pub mod TablesReported
 pub mod FieldsReported
+pub mod FieldsByNumber
 pub mod PiecesOfObjects
 pub mod ReferencesOnce
 pub mod KeptInObject

@@ -14,6 +14,7 @@ ghost use Rattle.lk_relocate.specs.ObjectSections.{IsReady, IsSectionOf, referen
 use crate::object_sections::ObjectSection;
 use lk_elf::Rela;
 use lk_model::layouts::Numbers;
+use lk_obj_read::RelaList;
 use lk_reloc::{apply, value};
 use lk_report::{FaultList, NoMemory};
 use std::alloc::Global;
@@ -65,11 +66,12 @@ fn fill_field(
 }
 
 /// Fills the fields of relocations in the bytes of their section, and reports the values that do not fit.
+#[tactic(auto, using(crate::proofs::FieldsByNumber::next_filled, crate::proofs::FieldsByNumber::all_filled_in, crate::proofs::FieldsByNumber::next_reported, crate::proofs::FieldsByNumber::all_reported))]
 pub(crate) fn fill_fields(
     alloc: Global,
     section: &ObjectSection<'_>,
     bytes: &mut [u8],
-    relas: &[Rela],
+    relas: &RelaList,
     faults: &mut FaultList,
 ) -> Result<(), NoMemory>
     requires ready { IsReady section.now }
@@ -77,26 +79,28 @@ pub(crate) fn fill_fields(
     ensures filled { (r : Resolved) → IsSectionOf section.now r → OnOk result (bytes.new ≡ all_filled r section.now.values.now.place bytes.old (references_among r section.now relas.now)) }
     ensures reported { (r : Resolved) → IsSectionOf section.now r → OnOk result (faults.new ≡ faults.old ++ overflows r section.now.values.now.place (references_among r section.now relas.now)) }
 {
-    for rela in relas {
-        fill_field(alloc, section, bytes, rela.r_offset as usize, rela, faults)?;
+    for k in 0..relas.len() {
+        let rela = relas.at(k);
+        fill_field(alloc, section, bytes, rela.r_offset as usize, &rela, faults)?;
     }
     Ok(())
 }
 
 /// Reports the values of relocations of a section that do not fit their fields, and fills none.
-#[tactic(auto, using(crate::proofs::Widths::width_short))]
+#[tactic(auto, using(crate::proofs::Widths::width_short, crate::proofs::FieldsByNumber::next_reported, crate::proofs::FieldsByNumber::all_reported))]
 pub(crate) fn check_fields(
     alloc: Global,
     section: &ObjectSection<'_>,
-    relas: &[Rela],
+    relas: &RelaList,
     faults: &mut FaultList,
 ) -> Result<(), NoMemory>
     requires { IsReady section.now }
     ensures { (r : Resolved) → IsSectionOf section.now r → OnOk result (faults.new ≡ faults.old ++ overflows r section.now.values.now.place (references_among r section.now relas.now)) }
 {
-    for rela in relas {
+    for k in 0..relas.len() {
+        let rela = relas.at(k);
         let mut field = [0; WIDEST];
-        fill_field(alloc, section, &mut field, 0, rela, faults)?;
+        fill_field(alloc, section, &mut field, 0, &rela, faults)?;
     }
     Ok(())
 }

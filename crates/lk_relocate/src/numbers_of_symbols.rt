@@ -7,9 +7,8 @@ ghost use Rattle.lk_model.specs.References.{number_of_name};
 ghost use Rattle.lk_symtab.specs.NameRows.{all_symbols};
 ghost use Rattle.lk_relocate.specs.NumbersOfSymbols.{AreNumbersOf, AreNumbersAt, symbol_numbers_at};
 
-use lk_elf::Rela;
 use lk_marks::make_room;
-use lk_obj_read::Object;
+use lk_obj_read::{Object, RelaList};
 use lk_report::{Name, NoMemory};
 use lk_symbol_values::{SymbolNumbers, Values};
 
@@ -96,12 +95,13 @@ pub(crate) fn learn_symbols(
     values: &Values<'_>,
     object: &Object,
     input: u32,
-    relas: &[Rela],
+    relas: &RelaList,
 ) -> Result<(), NoMemory>
     requires { AreNumbersOf values.now input object.now numbers_by_symbol.old.items }
     ensures { OnOk result (AreNumbersOf values.now input object.now numbers_by_symbol.new.items) }
 {
-    for rela in relas {
+    for k in 0..relas.len() {
+        let rela = relas.at(k);
         learn_symbol(numbers_by_symbol, values, object, input, rela.r_symbol())?;
     }
     Ok(())

@@ -88,7 +88,7 @@ impl ObjectTables {
         ensures at { self.new.input ≡ self.old.input }
     {
         if self.marks.is_marked(section) {
-            let relas = object.relocations(section).as_slice();
+            let relas = object.relocations(section);
             learn_symbols(&mut self.numbers_by_symbol, values, object, input, relas)?;
             Ok(())
         } else {

@@ -13,8 +13,8 @@ ghost use Rattle.lk_relocate.specs.ObjectSections.{IsReady, IsSectionOf, referen
 use crate::field_filling::{check_fields, fill_fields};
 use crate::object_sections::ObjectSection;
 use crate::piece_places::place_in;
-use lk_elf::Rela;
 use lk_model::layouts::PieceRow;
+use lk_obj_read::RelaList;
 use lk_report::{FaultList, NoMemory};
 use std::alloc::Global;
 
@@ -25,7 +25,7 @@ fn fill_at(
     image: &mut [u8],
     at: usize,
     bytes: &[u8],
-    relas: &[Rela],
+    relas: &RelaList,
     faults: &mut FaultList,
 ) -> Result<(), NoMemory>
     requires ready { IsReady section.now }
@@ -55,7 +55,7 @@ pub(crate) fn link_section(
 {
     if section.tables.marks.is_marked(section.section) {
         let bytes = section.object.piece_bytes(section.section);
-        let relas = section.object.relocations(section.section).as_slice();
+        let relas = section.object.relocations(section.section);
         match place_in(section.values.placement(), image.len(), piece, bytes.len()) {
             None => check_fields(alloc, section, relas, faults),
             Some(at) => {

@@ -7,6 +7,7 @@ pub mod NoFaults
 pub mod Joined
 pub mod NeedsJoined
 pub mod ReferencesNoted
+pub mod RelasNoted
 pub mod PiecesNoted
 pub mod KeptByInput
 pub mod LinkScanned

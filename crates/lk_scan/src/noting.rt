@@ -133,6 +133,7 @@ fn referral_of(
 }
 
 /// Looks at the relocations of a piece.
+#[tactic(auto, using(crate::proofs::RelasNoted::next_noted, crate::proofs::RelasNoted::all_noted))]
 fn note_piece(
     scan: &mut Scan,
     targets: &[Target],
@@ -149,9 +150,10 @@ fn note_piece(
     let setting = setting_of(&piece.key);
     let path = resolution.path(input);
     let section = piece.section;
-    let relas = object.relocations(section).as_slice();
-    for rela in relas {
-        let referral = referral_of(targets, resolution, object, input, section, rela);
+    let relas = object.relocations(section);
+    for k in 0..relas.len() {
+        let rela = relas.at(k);
+        let referral = referral_of(targets, resolution, object, input, section, &rela);
         note(scan, resolution.names(), path, setting, &referral)?;
     }
     Ok(())

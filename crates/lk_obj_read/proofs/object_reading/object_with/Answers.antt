@@ -18,6 +18,6 @@ invariant_of-result c =
       summary = search rules;
       count = search rules;
       relocations = λ n within.
-          c.in_ok-relocations.ensures.lists (elf_of c.args.bytes) (bytes_of c.args.bytes ∙ sym c.as_slice-file.ensures) (sym sections) n
+          c.in_ok-relocations.ensures.lists (elf_of c.args.bytes) (bytes_of c.args.bytes) (sym sections) n
           (subst (λ headers. n < length headers) (sym sections) within);
     }

@@ -5,5 +5,5 @@ use Rattle.lk_obj_read.proofs.relocation_lists.relocations_by_target.Given as go
 abbrev pub invariant-loop-i : goal.invariant-loop-i
 invariant-loop-i l = record {
   count : vec_len l.lists ≡ length l.sections;
-  lists : (t : ℕ) → t < length l.sections → slice_index_or l.lists.items t [] ++ relas_on l.bytes t (drop l.i l.sections) ≡ relas_on l.bytes t (drop 1 l.sections);
+  lists : (t : ℕ) → t < length l.sections → slice_index_or l.lists.items t [] ++ relas_on l.file t (drop l.i l.sections) ≡ relas_on l.file t (drop 1 l.sections);
 }

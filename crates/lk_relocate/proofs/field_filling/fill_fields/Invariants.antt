@@ -5,8 +5,8 @@ use Rattle.lk_relocate.specs.Fields.{all_filled}
 use Rattle.lk_relocate.specs.ObjectSections.{IsSectionOf, references_among}
 use Rattle.lk_relocate.proofs.field_filling.fill_fields.Given as goal
 
-abbrev pub invariant-loop-rela : goal.invariant-loop-rela
-invariant-loop-rela l =
+abbrev pub invariant-loop-k : goal.invariant-loop-k
+invariant-loop-k l =
     (r : Resolved) → IsSectionOf l.section r
-    → (all_filled r l.section.values.now.place l.bytes (references_among r l.section (drop l.rela-index l.relas)) ≡ all_filled r l.section.values.now.place l.initial.bytes (references_among r l.section l.relas))
-    × (l.faults ++ overflows r l.section.values.now.place (references_among r l.section (drop l.rela-index l.relas)) ≡ l.initial.faults ++ overflows r l.section.values.now.place (references_among r l.section l.relas))
+    → (all_filled r l.section.values.now.place l.bytes (references_among r l.section (drop l.k l.relas)) ≡ all_filled r l.section.values.now.place l.initial.bytes (references_among r l.section l.relas))
+    × (l.faults ++ overflows r l.section.values.now.place (references_among r l.section (drop l.k l.relas)) ≡ l.initial.faults ++ overflows r l.section.values.now.place (references_among r l.section l.relas))

@@ -11,8 +11,8 @@ piece_bytes-bytes-requires c =
     let s = c.args.section.now in
     piece_is s.object.now s.section (sym (c.requires.tables_are.marks_are s.section) ∙ sym c.is_marked.ensures ∙ c.if-is_marked.true)
 
-pub relocations-requires : goal.relocations-requires
-relocations-requires c =
+pub relocations-relas-requires : goal.relocations-relas-requires
+relocations-relas-requires c =
     let s = c.args.section.now in
     piece_is s.object.now s.section (sym (c.requires.tables_are.marks_are s.section) ∙ sym c.is_marked.ensures ∙ c.if-is_marked.true)
 
