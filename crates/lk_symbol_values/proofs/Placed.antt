@@ -15,39 +15,37 @@ use Rattle.lk_model.specs.declared.layouts.PieceRow.{PieceRow}
 use Rattle.lk_model.specs.declared.layouts.Placement.{Placement}
 use Rattle.lk_model.specs.declared.layouts.SectionRow.{SectionRow}
 use Rattle.lk_symbol_values.specs.Addresses.{IsIndexed, address_of_piece, entry_address, slot_at}
-use Rattle.lk_symbol_values.specs.PieceAddresses.{address_in, address_of, key_of, same_key}
+use Rattle.lk_symbol_values.specs.PieceAddresses.{address_in, address_of, has_key, key_of, piece_of}
 use Rattle.lk_symbol_values.specs.Sections.{address_of_row, low_64}
 use Rattle.lk_symbol_values.specs.SlotNumbers.{FindsSlots, entry_of, number_of, place_from, key_of as owner_key}
 use Rattle.lk_symbol_values.specs.declared.addresses.Tables.{Tables}
 use Rattle.lk_symbol_values.specs.declared.piece_addresses.PieceKey.{PieceKey}
+use Rattle.lk_symbol_values.specs.declared.piece_addresses.PieceKey.TheVariants as key
 use Rattle.lk_symbol_values.specs.declared.slot_numbers.OwnerKey.{OwnerKey}
 use Rattle.lk_symbol_values.proofs.SlotKeys.{slots_alike}
 
 -- pieces
-keys_same : (q p : PieceId) → same_key (key_of q) (key_of p) ≡ same_piece q p
-keys_same (id.Section i s) (id.Section j t) = refl
-keys_same (id.Section i s) (id.Common m) = refl
-keys_same (id.Section i s) (id.Copy m) = refl
-keys_same (id.Common n) (id.Section j t) = refl
-keys_same (id.Common n) (id.Common m) = refl
-keys_same (id.Common n) (id.Copy m) = refl
-keys_same (id.Copy n) (id.Section j t) = refl
-keys_same (id.Copy n) (id.Common m) = refl
-keys_same (id.Copy n) (id.Copy m) = refl
+keys_same : (q : PieceId) (k : PieceKey) → has_key (key_of q) k ≡ same_piece q (piece_of k)
+keys_same (id.Section i s) (key.Common m) = refl
+keys_same (id.Section i s) (key.Copy m) = refl
+keys_same (id.Common n) (key.Common m) = refl
+keys_same (id.Common n) (key.Copy m) = refl
+keys_same (id.Copy n) (key.Common m) = refl
+keys_same (id.Copy n) (key.Copy m) = refl
 
 this_or_next : (b : Bool) (row : PieceRow) (rest : Option PieceRow) → cond b (Some row.addr) (option_map address_of_piece rest) ≡ option_map address_of_piece (cond b (Some row) rest)
 this_or_next true row rest = refl
 this_or_next false row rest = refl
 
-in_rows : (rows : List PieceRow) (p : PieceId) → address_in rows (key_of p) ≡ option_map address_of_piece (find (λ row. same_piece row.piece p) rows)
-in_rows [] p = refl
-in_rows (row ∷ rows) p =
-    (λ i. cond (keys_same row.piece p i) (Some row.addr) (in_rows rows p i))
-    ∙ this_or_next (same_piece row.piece p) row (find (λ row. same_piece row.piece p) rows)
+in_rows : (rows : List PieceRow) (k : PieceKey) → address_in rows k ≡ option_map address_of_piece (find (λ row. same_piece row.piece (piece_of k)) rows)
+in_rows [] k = refl
+in_rows (row ∷ rows) k =
+    (λ i. cond (keys_same row.piece k i) (Some row.addr) (in_rows rows k i))
+    ∙ this_or_next (same_piece row.piece (piece_of k)) row (find (λ row. same_piece row.piece (piece_of k)) rows)
 
 pub piece_found : (pieces : List (PieceKey × ℕ)) (values threads : List (OwnerKey × ℕ)) (entries : List (ℕ × ℕ)) (tables : Tables) (place : Placement) → IsIndexed pieces values threads entries tables place
-    → (p : PieceId) → address_of pieces (key_of p) ≡ option_map address_of_piece (piece_row_of place p)
-piece_found pieces values threads entries tables place is p = is.pieces_found (key_of p) ∙ in_rows place.pieces p
+    → (k : PieceKey) → address_of pieces k ≡ option_map address_of_piece (piece_row_of place (piece_of k))
+piece_found pieces values threads entries tables place is k = is.pieces_found k ∙ in_rows place.pieces k
 
 -- places in lists
 module _ {A : Type 0} (test : A → Bool) where

@@ -1,5 +1,5 @@
 -- Symbols of inputs that are not LOCAL, by their numbers (gABI "Symbol Table").
-use Rattle.std.specs.Prelude.{ℕ, ◌==◌, ◌&&◌, Bool, true, nat_le, cond, List, [], ◌∷◌, Option, Some, None, find, slice_get}
+use Rattle.std.specs.Prelude.{ℕ, ◌-◌, ◌==◌, ◌&&◌, Bool, true, nat_lt, cond, List, [], ◌∷◌, Option, Some, None, find, slice_get}
 use Rattle.lk_model.specs.declared.summaries.Global.{Global}
 use Rattle.lk_model.specs.declared.summaries.InputSummary.{InputSummary}
 
@@ -17,10 +17,15 @@ abbrev pub where_numbered : ℕ → Option Global → Option Global
 where_numbered symbol None = None
 where_numbered symbol (Some g) = cond (has_number symbol g) (Some g) None
 
--- whether the numbers of symbols rise, from this one on
+-- whether the numbers of symbols rise above this one, each above the one before
 abbrev pub rise_from : ℕ → List Global → Bool
 rise_from least [] = true
-rise_from least (g ∷ gs) = nat_le least g.symbol && rise_from g.symbol gs
+rise_from least (g ∷ gs) = nat_lt least g.symbol && rise_from g.symbol gs
+
+-- how far a number is above that of the first symbol
+abbrev pub distance : List Global → ℕ → ℕ
+distance [] symbol = 0
+distance (g ∷ gs) symbol = symbol - g.symbol
 
 -- whether the numbers of an input's symbols rise
 abbrev pub numbers_rise : InputSummary → Bool

@@ -13,10 +13,7 @@ use Rattle.lk_symbol_values.specs.Sections.{low_64}
 use Rattle.lk_symbol_values.specs.declared.made_places.Bound.{Bound}
 use Rattle.lk_symbol_values.specs.declared.made_places.MadePlaces.{MadePlaces}
 
--- the numbers of the sections of pieces, and whether a section with a number has one of them
-abbrev pub sections_of_pieces : List PieceRow → List ℕ
-sections_of_pieces pieces = map (λ (p : PieceRow). p.section) pieces
-
+-- whether the section with a number holds one of these pieces
 abbrev pub has_piece_at : List PieceRow → ℕ → Bool
 has_piece_at pieces n = list_any (λ (p : PieceRow). p.section == n) pieces
 

@@ -1,22 +1,24 @@
-//! A placement with its rows and slots looked up by hash: where pieces, PLT entries and GOT slots are.
+//! A placement with its rows by number and its slots by hash: where pieces, PLT entries and GOT slots are.
 
 ghost use Rattle.std.specs.Prelude.{◌≡◌, IfOk};
 ghost use Rattle.std.specs.Option.{option_map};
 ghost use Rattle.lk_model.specs.Keys.{piece_row_of, slot_number};
 ghost use Rattle.lk_model.specs.Segments.{tls_end, tls_start};
-ghost use Rattle.lk_model.specs.SymbolValues.{got_address, home_value, import_value, is_placed_home, placed_address, plt_address, section_address, slot_address};
 ghost use Rattle.lk_model.specs.declared.layouts.PieceId.{PieceId};
+ghost use Rattle.lk_model.specs.SymbolValues.{got_address, home_value, import_value, is_placed_home, placed_address, plt_address, section_address, slot_address};
 ghost use Rattle.lk_symbol_values.specs.Addresses.{address_of_piece, entry_address, or_zero, slot_at, tables_of};
+ghost use Rattle.lk_symbol_values.specs.PieceAddresses.{piece_of};
 ghost use Rattle.lk_symbol_values.specs.Sections.{low_64};
 
-use crate::piece_addresses::{PieceAddresses, address_of, piece_addresses};
+use crate::piece_addresses::{PieceAddresses, PieceKey, address_of, piece_addresses};
 use crate::sections::{low_64, section_start};
 use crate::slot_numbers::{
     EntryNumbers, SlotNumbers, entry_numbers, entry_of, number_of, slot_numbers,
 };
 use lk_headers::{tls_end, tls_start};
-use lk_model::layouts::{Class, GotKey, PieceId, Placement};
+use lk_model::layouts::{Class, GotKey, Placement};
 use lk_model::summaries::Home;
+use lk_piece_rows::PieceRows;
 use lk_report::NoMemory;
 use std::alloc::Global;
 use std::marker::Model;
@@ -36,10 +38,12 @@ pub(crate) struct Tables {
     tls_end: u64,
 }
 
-/// A placement whose pieces, slots and entries are looked up by hash. Contracts see it as the placement.
+/// A placement whose input sections are found by number, and its other pieces, slots and entries by hash. Contracts
+/// see it as the placement.
 #[derive(Drop)]
 pub(crate) struct Addresses<'a> {
-    place: &'a Placement,
+    rows: PieceRows<'a>,
+    /// The commons and copies.
     pieces: PieceAddresses,
     /// The slots that hold values.
     values: SlotNumbers,
@@ -55,9 +59,9 @@ impl<'a> Model for Addresses<'a> {
 
     ghost Value = { Placement };
 
-    ghost view = { λ a. a.place.now };
+    ghost view = { λ a. a.rows };
 
-    ghost invariant = { λ a. IsIndexed a.pieces.entries a.values.entries a.threads.entries a.entries.entries a.tables a.place.now };
+    ghost invariant = { λ a. IsIndexed a.pieces.entries a.values.entries a.threads.entries a.entries.entries a.tables a.rows };
 }
 
 /// The address of a section; 0 without one.
@@ -91,13 +95,14 @@ impl<'a> Addresses<'a> {
     pub(crate) fn new(alloc: Global, place: &'a Placement) -> Result<Self, NoMemory>
         ensures { IfOk result (λ addresses. addresses ≡ place.now) }
     {
+        let rows = PieceRows::of(alloc, place)?;
         let pieces = piece_addresses(alloc, place.pieces.as_slice())?;
         let values = slot_numbers(alloc, false, place.slots.got.as_slice())?;
         let threads = slot_numbers(alloc, true, place.slots.got.as_slice())?;
         let entries = entry_numbers(alloc, place.slots.plt.as_slice())?;
         let tables = tables_of(place);
         Ok(Addresses {
-            place,
+            rows,
             pieces,
             values,
             threads,
@@ -110,28 +115,38 @@ impl<'a> Addresses<'a> {
     pub(crate) fn placement(&self) -> &Placement
         ensures { result.now ≡ self.now }
     {
-        self.place
+        self.rows.placement()
     }
 
-    /// The address of a piece; none for one that is not placed.
-    pub(crate) fn piece(&self, piece: PieceId) -> Option<u64>
-        ensures { result ≡ option_map address_of_piece (piece_row_of self.now piece) }
+    /// The address of a section of an input; none for one that is not placed.
+    pub(crate) fn section(&self, input: u32, section: u32) -> Option<u64>
+        ensures { result ≡ option_map address_of_piece (piece_row_of self.now (PieceId.Section input section)) }
     {
-        address_of(&self.pieces, piece)
+        match self.rows.row(u64::from(input), section) {
+            None => None,
+            Some(row) => Some(row.addr),
+        }
+    }
+
+    /// The address of a common block or of a copy; none for one that is not placed.
+    fn named(&self, key: PieceKey) -> Option<u64>
+        ensures { result ≡ option_map address_of_piece (piece_row_of self.now (piece_of key)) }
+    {
+        address_of(&self.pieces, key)
     }
 
     /// The address of a common block or of a copy; 0 where it is not placed.
-    pub(crate) fn placed_address(&self, piece: PieceId) -> u64
-        ensures { result ≡ placed_address self.now piece }
+    pub(crate) fn placed_address(&self, key: PieceKey) -> u64
+        ensures { result ≡ placed_address self.now (piece_of key) }
     {
-        or_zero(self.piece(piece))
+        or_zero(self.named(key))
     }
 
     /// The address of an offset in a section of an input; 0 where the section is no kept piece.
     pub(crate) fn section_address(&self, input: u32, section: u32, offset: u64) -> u64
         ensures { result ≡ section_address self.now input section offset }
     {
-        match self.piece(PieceId::Section { input, section }) {
+        match self.section(input, section) {
             None => 0,
             Some(address) => address.wrapping_add(offset),
         }
@@ -153,7 +168,7 @@ impl<'a> Addresses<'a> {
         ensures { result ≡ is_placed_home self.now input home }
     {
         match home {
-            Home::Section(section) => self.piece(PieceId::Section { input, section }).is_some(),
+            Home::Section(section) => self.section(input, section).is_some(),
             Home::Undefined | Home::Absolute | Home::Common | Home::Shared => false,
         }
     }
@@ -169,7 +184,7 @@ impl<'a> Addresses<'a> {
     pub(crate) fn import_value(&self, name: u32) -> u64
         ensures { result ≡ low_64 (import_value self.now name) }
     {
-        match self.piece(PieceId::Copy { name }) {
+        match self.named(PieceKey::Copy { name }) {
             Some(address) => address,
             None => or_zero(self.plt_address(name)),
         }

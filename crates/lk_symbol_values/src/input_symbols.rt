@@ -1,14 +1,15 @@
-//! Symbols of inputs that are not LOCAL, found by their numbers (gABI "Symbol Table").
+//! Symbols of inputs that are not LOCAL, found by their numbers (gABI "Symbol Table"). In a file that a compiler wrote
+//! their numbers go up by one, so that a symbol is as far from the first one as its number is.
 
 ghost use Rattle.std.specs.Prelude.{◌≡◌, find, slice_get, true};
 ghost use Rattle.std.specs.List.{list_all};
 ghost use Rattle.std.specs.Option.{option_copied};
-ghost use Rattle.lk_symbol_values.specs.InputSymbols.{has_number, numbers_rise, rise_from, symbol_in, where_numbered};
+ghost use Rattle.lk_symbol_values.specs.InputSymbols.{distance, has_number, numbers_rise, rise_from, symbol_in, where_numbered};
 
 use lk_model::summaries::{Global, InputSummary};
 use std::marker::Model;
 
-/// The symbols of the inputs of a link, which are found by halving. Contracts see them as the summaries.
+/// The symbols of the inputs of a link. Contracts see them as the summaries.
 #[derive(Drop)]
 pub(crate) struct InputSymbols<'a> {
     inputs: &'a [InputSummary],
@@ -35,7 +36,7 @@ fn rise(globals: &[Global]) -> bool
 {
     let mut least = 0;
     for global in globals {
-        if global.symbol < least {
+        if global.symbol <= least {
             return false;
         }
         least = global.symbol;
@@ -97,6 +98,34 @@ fn symbol_by_halving(globals: &[Global], symbol: u32) -> Option<&Global>
     where_numbered(globals.get(lower_count(globals, symbol)), symbol)
 }
 
+/// The symbol at a place among these, where it has this number.
+fn symbol_at(globals: &[Global], place: usize, symbol: u32) -> Option<&Global>
+    ensures { option_copied result ≡ where_numbered symbol (slice_get globals.now place) }
+{
+    where_numbered(globals.get(place), symbol)
+}
+
+/// How far a number is above that of the first symbol.
+fn distance(globals: &[Global], symbol: u32) -> u32
+    ensures { result ≡ distance globals.now symbol }
+{
+    match globals.first() {
+        None => 0,
+        Some(first) => symbol.saturating_sub(first.symbol),
+    }
+}
+
+/// The symbol with a number among these, whose numbers rise: the one as far from the first, if it has the number.
+fn symbol_of_rising(globals: &[Global], symbol: u32) -> Option<&Global>
+    requires { rise_from 0 globals.now ≡ true }
+    ensures { option_copied result ≡ find (has_number symbol) globals.now }
+{
+    match symbol_at(globals, distance(globals, symbol) as usize, symbol) {
+        Some(global) => Some(global),
+        None => symbol_by_halving(globals, symbol),
+    }
+}
+
 /// The first symbol with a number among these, one after another.
 fn symbol_by_walking(globals: &[Global], symbol: u32) -> Option<&Global>
     ensures { option_copied result ≡ find (has_number symbol) globals.now }
@@ -110,7 +139,7 @@ fn symbol_among(globals: &[Global], rise: bool, symbol: u32) -> Option<&Global>
     ensures { option_copied result ≡ find (has_number symbol) globals.now }
 {
     if rise {
-        symbol_by_halving(globals, symbol)
+        symbol_of_rising(globals, symbol)
     } else {
         symbol_by_walking(globals, symbol)
     }

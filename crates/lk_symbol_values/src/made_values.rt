@@ -1,21 +1,19 @@
 //! The values of the symbols that the linker makes: those of fixed names, and of `__start_` and `__stop_`
 //! before the name of a loaded section (this project's own; names as GNU linkers give them).
 
-ghost use Rattle.std.specs.Prelude.{◌≡◌, ◌&&◌, ℕ, List, [], bytes_eq, cond, drop, fold, nat_eq, Some, IfOk, OnOk};
-ghost use Rattle.lk_model.specs.Numbered.{is_number_in, with_new};
-ghost use Rattle.lk_symbol_values.specs.MadeValues.{bound_of, bound_of_row, bound_value_by, end_or_zero, is_bound_row, made_in, sections_of_pieces, start_or_zero, FindsBounds};
+ghost use Rattle.std.specs.Prelude.{◌≡◌, ◌&&◌, ℕ, List, bytes_eq, cond, drop, Some, IfOk, OnOk};
+ghost use Rattle.lk_marks.specs.Marked.{is_marked};
+ghost use Rattle.lk_symbol_values.specs.MadeValues.{bound_of, bound_of_row, bound_value_by, end_or_zero, is_bound_row, has_piece_at, made_in, start_or_zero, FindsBounds};
 
 use crate::made_places::{Bound, MadePlaces, fixed_value, made_places};
 use crate::sections::exact;
-use indexmap::{IndexMap, IndexSet};
+use indexmap::IndexMap;
+use lk_marks::Marks;
 use lk_model::classes::same_class;
 use lk_model::layouts::{Class, PieceRow, Placement, SectionRow};
 use lk_report::{Name, NoMemory};
 use std::alloc::Global;
 use std::marker::Model;
-
-/// The numbers of sections that hold pieces.
-type SectionsWithPieces = IndexSet<usize>;
 
 /// Where the loaded sections that hold pieces begin and end, by name.
 type Bounds = IndexMap<Name, Bound>;
@@ -39,17 +37,26 @@ impl<'a> Model for MadeValues<'a> {
     ghost invariant = { λ m. IsMadeOf m.places m.bounds.entries m.place.now };
 }
 
-/// The numbers of the sections of these pieces.
-fn sections_with_pieces(alloc: Global, pieces: &[PieceRow]) -> Result<SectionsWithPieces, NoMemory>
-    ensures { IfOk result (λ with_pieces. with_pieces.keys ≡ fold (with_new nat_eq) [] (sections_of_pieces pieces.now)) }
+/// The numbers of the sections that hold these pieces.
+fn sections_with_pieces(alloc: Global, pieces: &[PieceRow]) -> Result<Marks, NoMemory>
+    ensures { IfOk result (λ with_pieces. (n : ℕ) → is_marked with_pieces n ≡ has_piece_at pieces.now n) }
 {
-    let mut with_pieces = IndexSet::new(alloc);
+    let mut with_pieces = Marks::new(alloc);
     for piece in pieces {
-        if with_pieces.insert(piece.section as usize).is_err() {
-            return Err(NoMemory);
-        }
+        with_pieces.mark(piece.section)?;
     }
     Ok(with_pieces)
+}
+
+/// Whether the section with a number is marked.
+fn is_marked(with_pieces: &Marks, number: usize) -> bool
+    ensures { result ≡ is_marked with_pieces.now number }
+{
+    with_pieces
+        .as_slice()
+        .get(number)
+        .copied()
+        .unwrap_or(false)
 }
 
 /// Where a section begins and ends.
@@ -63,10 +70,10 @@ fn bound_of_row(row: &SectionRow) -> Bound
 }
 
 /// Whether the row with a number is that of a loaded section that holds a piece.
-fn is_bound_row(with_pieces: &SectionsWithPieces, number: usize, row: &SectionRow) -> bool
-    ensures { result ≡ is_bound_row (is_number_in with_pieces.now.keys) number row.now }
+fn is_bound_row(with_pieces: &Marks, number: usize, row: &SectionRow) -> bool
+    ensures { result ≡ is_bound_row (is_marked with_pieces.now) number row.now }
 {
-    !same_class(row.key.class, Class::N) && with_pieces.contains(&number)
+    !same_class(row.key.class, Class::N) && is_marked(with_pieces, number)
 }
 
 /// Notes where a section begins and ends, in place of what was noted before under its name.
@@ -84,11 +91,11 @@ fn note_bound(alloc: Global, bounds: &mut Bounds, row: &SectionRow) -> Result<()
 fn note_row(
     alloc: Global,
     bounds: &mut Bounds,
-    with_pieces: &SectionsWithPieces,
+    with_pieces: &Marks,
     number: usize,
     row: &SectionRow,
 ) -> Result<(), NoMemory>
-    ensures { OnOk result ((name : List ℕ) → bound_of bounds.new.entries name ≡ cond (is_bound_row (is_number_in with_pieces.now.keys) number row.now && bytes_eq row.now.key.name name) (Some (bound_of_row row.now)) (bound_of bounds.old.entries name)) }
+    ensures { OnOk result ((name : List ℕ) → bound_of bounds.new.entries name ≡ cond (is_bound_row (is_marked with_pieces.now) number row.now && bytes_eq row.now.key.name name) (Some (bound_of_row row.now)) (bound_of bounds.old.entries name)) }
 {
     if is_bound_row(with_pieces, number, row) {
         note_bound(alloc, bounds, row)?;
@@ -99,10 +106,10 @@ fn note_row(
 /// Where the loaded sections among these that hold pieces begin and end; of a name that several have the first.
 fn bounds_among(
     alloc: Global,
-    with_pieces: &SectionsWithPieces,
+    with_pieces: &Marks,
     rows: &[SectionRow],
 ) -> Result<Bounds, NoMemory>
-    ensures { IfOk result (λ bounds. FindsBounds (is_number_in with_pieces.now.keys) bounds.entries rows.now) }
+    ensures { IfOk result (λ bounds. FindsBounds (is_marked with_pieces.now) bounds.entries rows.now) }
 {
     let mut bounds = IndexMap::new(alloc);
     for number in (0..rows.len()).rev() {

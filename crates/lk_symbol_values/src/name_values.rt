@@ -8,8 +8,8 @@ ghost use Rattle.lk_symbol_values.specs.Sections.{low_64};
 use crate::addresses::Addresses;
 use crate::input_symbols::InputSymbols;
 use crate::made_values::MadeValues;
+use crate::piece_addresses::PieceKey;
 use crate::sections::exact;
-use lk_model::layouts::PieceId;
 use lk_model::summaries::{Local, Winner};
 use lk_report::{List, Name, NoMemory};
 use lk_symtab::SymTab;
@@ -73,8 +73,8 @@ fn given_value(
         Winner::Strong { input, symbol } | Winner::Weak { input, symbol } => {
             definition_value(addresses, inputs, input, symbol)
         }
-        Winner::Common { .. } => addresses.placed_address(PieceId::Common { name: number }),
-        Winner::Import { .. } => addresses.placed_address(PieceId::Copy { name: number }),
+        Winner::Common { .. } => addresses.placed_address(PieceKey::Common { name: number }),
+        Winner::Import { .. } => addresses.placed_address(PieceKey::Copy { name: number }),
     }
 }
 

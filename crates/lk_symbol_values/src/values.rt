@@ -22,7 +22,7 @@ use crate::addresses::Addresses;
 use crate::input_symbols::InputSymbols;
 use crate::made_values::MadeValues;
 use crate::name_values::{SymbolValue, SymbolValueList, local_value, name_values};
-use lk_model::layouts::{GotKey, GotOwner, Numbers, PieceId, Placement};
+use lk_model::layouts::{GotKey, GotOwner, Numbers, Placement};
 use lk_model::summaries::{Global as Symbol, Local, SummaryList};
 use lk_report::{Name, NoMemory};
 use lk_resolve::Resolution;
@@ -249,7 +249,7 @@ impl<'a> Values<'a> {
     pub fn piece_start(&self, input: u32, section: u32) -> Option<u64>
         ensures { result ≡ piece_start self.now.place input section }
     {
-        self.addresses.piece(PieceId::Section { input, section })
+        self.addresses.section(input, section)
     }
 
     /// The value of the name with a number. What inputs and placed pieces give of it fits 64 bits.

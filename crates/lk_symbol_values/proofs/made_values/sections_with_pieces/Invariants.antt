@@ -1,7 +1,8 @@
-use Rattle.std.proofs.Common.{◌≡◌, [], nat_eq, fold, drop}
-use Rattle.lk_model.specs.Numbered.{with_new}
-use Rattle.lk_symbol_values.specs.MadeValues.{sections_of_pieces}
+use Rattle.std.proofs.Common.{◌≡◌, ◌||◌, ℕ, drop}
+use Rattle.lk_marks.specs.Marked.{is_marked}
+use Rattle.lk_symbol_values.specs.MadeValues.{has_piece_at}
 use Rattle.lk_symbol_values.proofs.made_values.sections_with_pieces.Given as goal
 
+-- the marks so far and the pieces that are left are all pieces
 abbrev pub invariant-loop-piece : goal.invariant-loop-piece
-invariant-loop-piece l = fold (with_new nat_eq) l.with_pieces.keys (sections_of_pieces (drop l.piece-index l.pieces)) ≡ fold (with_new nat_eq) [] (sections_of_pieces l.pieces)
+invariant-loop-piece l = (n : ℕ) → (is_marked l.with_pieces n || has_piece_at (drop l.piece-index l.pieces) n) ≡ has_piece_at l.pieces n

@@ -10,5 +10,5 @@ pub returns : goal.returns
 returns c =
     c.entry_address.ensures
     ∙ ap (entry_address c.self.inside.tables.plt) c.entry_of.ensures
-    ∙ entry_found c.self.inside.pieces.entries c.self.inside.values.entries c.self.inside.threads.entries c.self.inside.entries.entries c.self.inside.tables c.self.inside.place.now c.self.invariant c.args.name
+    ∙ entry_found c.self.inside.pieces.entries c.self.inside.values.entries c.self.inside.threads.entries c.self.inside.entries.entries c.self.inside.tables c.self.inside.rows c.self.invariant c.args.name
     ∙ ap (λ place. option_map low_64 (plt_address place c.args.name)) c.self.view_is

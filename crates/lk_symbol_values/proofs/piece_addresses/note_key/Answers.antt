@@ -1,5 +1,5 @@
 use Rattle.std.proofs.Common.{rules}
-use Rattle.lk_symbol_values.proofs.piece_addresses.note_piece.Goals as goal
+use Rattle.lk_symbol_values.proofs.piece_addresses.note_key.Goals as goal
 
 pub returns-in-Ok : goal.returns-in-Ok
 returns-in-Ok c = λ k. let u = c.in-Ok.ensures.updates.0 k in search (rules, u)
