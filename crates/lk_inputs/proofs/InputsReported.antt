@@ -122,7 +122,7 @@ paths_are (x ∷ xs) = ap (λ (paths : List (List ℕ)). x.path ∷ paths) (path
 
 -- ---- what is read of them, where none is shared
 
-none_waits : (x : Input) (xs : List Input) → shared_waits (x ∷ xs) ≡ None → (is_shared x ≡ false) × (shared_waits xs ≡ None)
+pub none_waits : (x : Input) (xs : List Input) → shared_waits (x ∷ xs) ≡ None → (is_shared x ≡ false) × (shared_waits xs ≡ None)
 none_waits x xs h = by (is_shared x) refl h
   where
     by : (b : Bool) → is_shared x ≡ b → option_map (λ (i : Input). status.NotYet (waiting.Form i.path)) (cond b (Some x) (find is_shared xs)) ≡ None → (is_shared x ≡ false) × (shared_waits xs ≡ None)
@@ -134,7 +134,7 @@ kind_is_shared (Ok kind.Shared) = refl
 kind_is_shared (Ok kind.Object) = refl
 kind_is_shared (Err f) = refl
 
-read_shared : (lib : ℕ) (r : Result Kind InputFault) → (lib == 0 && is_shared_result r) ≡ (if lib == 0 then is_shared_kind r else false)
+pub read_shared : (lib : ℕ) (r : Result Kind InputFault) → (lib == 0 && is_shared_result r) ≡ (if lib == 0 then is_shared_kind r else false)
 read_shared lib r = by (lib == 0)
   where
     by : (b : Bool) → (b && is_shared_result r) ≡ (if b then is_shared_kind r else false)

@@ -1,5 +1,5 @@
 -- What the passes over inputs report, one after another, is what is reported of a command.
-use Rattle.std.proofs.Common.{◌≡◌, ◌<◌, ◌≤◌, refl, sym, ap, ◌∙◌, subst, arith, ℕ, nat_lt, Bool, false, List, [], ◌∷◌, length, map, Option, Some, None, Result, Ok, Err}
+use Rattle.std.proofs.Common.{◌≡◌, ◌<◌, ◌≤◌, refl, sym, ap, ◌∙◌, subst, arith, ℕ, nat_lt, Bool, false, List, [], ◌∷◌, ◌++◌, append-nil, length, map, Option, Some, None, Result, Ok, Err}
 use Rattle.std.specs.Prelude.{find, if◌then◌else◌}
 use Rattle.std.specs.List.{filter_map}
 use Rattle.std.proofs.lemmas.Bool.{le-ltb, ltb-false}
@@ -20,11 +20,14 @@ use Rattle.lk_inputs.specs.declared.input_words.InputWord.{InputWord}
 use Rattle.lk_inputs.specs.declared.inputs.Inputs.{Inputs}
 use Rattle.lk_inputs.specs.declared.look_ups.FoundFile.{FoundFile}
 use Rattle.lk_inputs.specs.declared.summaries.Judged.{Judged}
+use Rattle.lk_inputs.specs.declared.unread.Unread.{Unread}
+use Rattle.lk_inputs.specs.declared.unread.Unread.TheVariants as unread
 use Rattle.lk_inputs.specs.declared.word_look_ups.Sought.{Sought}
-use Rattle.lk_inputs.specs.FilesRead.{AreJudged, NamedGive, NamedRefused, fault_in, files_at, files_refused}
+use Rattle.lk_inputs.specs.FilesRead.{AreJudged, NamedGive, NamedRefused, ReadsGive, fault_in, files_at, files_refused, sizes_limit}
 use Rattle.lk_inputs.specs.FilesRead.{summary_of as summary_read}
 use Rattle.lk_inputs.specs.LookUps.{AreSought, FirstPlaceReported, LookUpsGive, SoughtGives, inputs_limit}
 use Rattle.lk_inputs.specs.Named.{files_of, named_in, names_in, words_seen}
+use Rattle.lk_inputs.specs.Unread.{unread_status}
 use Rattle.lk_inputs.specs.Refusals.{CommandInputs, InputsGive, IsRefusal, files_refusal, inputs_refusal}
 use Rattle.lk_inputs.proofs.InputsReported.{all_sound, faults_are, files_are, names_are_there, names_one_by_one, shared_are, sizes_are, summaries_are}
 use Rattle.lk_inputs.proofs.WordsSought.{found_named}
@@ -72,7 +75,23 @@ looked_up command there rows sought (Err (status.Limit l)) are few is gives = ab
 looked_up command there rows sought (Err (status.NotUpdated c)) are few is gives = absurd gives
 looked_up command there rows sought (Err (status.NotYet w)) are few is gives = absurd gives
 
+-- a look-up without an answer is reported in place of any answer but the limit
+pub unread_gives : (command : Command) (there : FileMap) (u : Unread) (s : Status) → s ≡ unread_status u → inputs_limit command ≡ None → LookUpsGive command there (Err s)
+unread_gives command there (unread.Failed path) s is few =
+    let G : Status → Type 0 = λ t. LookUpsGive command there (Err t) in
+    subst G (sym is) few
+unread_gives command there unread.NoMemory s is few =
+    let G : Status → Type 0 = λ t. LookUpsGive command there (Err t) in
+    subst G (sym is) tt
+
 -- ---- what is read
+
+-- once no input is left, the files are those that the map has, and none exceeds a limit
+pub reads_given : (there : FileMap) (names left : List InputName) (total : ℕ) (inputs : List InputFile) → left ≡ [] → inputs ++ files_at there left ≡ files_at there names → sizes_limit total (files_at there left) ≡ sizes_limit 0 (files_at there names) → ReadsGive there names (Ok inputs)
+reads_given there names left total inputs none files limit = (
+  sym limit ∙ ap (λ l. sizes_limit total (files_at there l)) none,
+  sym (append-nil inputs) ∙ ap (λ l. inputs ++ files_at there l) (sym none) ∙ files,
+)
 
 no_fault : (faults : List Fault) → false ≡ nat_lt 0 (length faults) → faults ≡ []
 no_fault [] h = refl

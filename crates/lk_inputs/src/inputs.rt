@@ -1,13 +1,9 @@
 //! The inputs of a command: they are looked up, read and summarized.
 
-ghost use Rattle.std.specs.Prelude.{◌≡◌, ◌≤◌, ◌^◌, length, map, All, Some, IfOk};
-ghost use Rattle.lk_report.specs.FileMap.{FileMap};
-ghost use Rattle.lk_inputs.specs.Asked.{AreSound, FilesAsked, IsOfFiles, IsOfObjects, StatusLast, StatusMisses, StatusNamed, file_name, name_path, known_stats};
-ghost use Rattle.lk_inputs.specs.FileNumbers.{FileFits};
-ghost use Rattle.lk_inputs.specs.FilesRead.{NamedGive, ObjectsGive, WaitGives};
-ghost use Rattle.lk_inputs.specs.InputsReading.{InputsRead};
-ghost use Rattle.lk_inputs.specs.Named.{file_path};
-ghost use Rattle.lk_inputs.specs.FileAnswers.{StatusCounts, known_map, known_reads, reads_with};
+ghost use Rattle.std.specs.Prelude.{◌≤◌, ◌^◌, length, All};
+ghost use Rattle.lk_inputs.specs.Asked.{IsOfObjects};
+ghost use Rattle.lk_inputs.specs.FilesRead.{ObjectsGive, WaitGives};
+ghost use Rattle.lk_inputs.specs.InputsReading.{InputsRead, NamedRead};
 
 use crate::input_files::{InputFile, InputFileList};
 use crate::reading::read_inputs;
@@ -66,21 +62,7 @@ fn read_named<F: Files>(
     names: InputNameList,
     files: &mut F,
 ) -> Result<Inputs, Status>
-    ensures kept { known_map (F.state files.new) ≡ known_map (F.state files.old) }
-    ensures reads { IfOk result (λ inputs. known_reads (F.state files.new) ≡ reads_with (map file_path inputs.files) (known_reads (F.state files.old))) }
-    ensures reported { (there : FileMap) → known_map (F.state files.old) ≡ Some there → NamedGive there names result }
-    ensures faults { StatusCounts (F.state files.old) result (F.state files.new) }
-    ensures alike { IfOk result (λ inputs. length inputs.files ≡ length inputs.summaries) }
-    ensures short { IfOk result (λ inputs. All (λ file. length file.bytes ≤ 2 ^ 26) inputs.files) }
-    ensures asked { FilesAsked (known_reads (F.state files.old)) (map name_path names) result (known_reads (F.state files.new)) }
-    ensures unlooked { known_stats (F.state files.new) ≡ known_stats (F.state files.old) }
-    ensures last { StatusLast (F.state files.old) result (F.state files.new) }
-    ensures misses { StatusMisses (F.state files.old) result (F.state files.new) }
-    ensures named { StatusNamed (map name_path names) result }
-    ensures kinds { IsOfFiles result }
-    ensures sound { IfOk result AreSound }
-    ensures names { IfOk result (λ inputs. map file_name inputs.files ≡ names) }
-    ensures fit { IfOk result (λ inputs. All FileFits inputs.files) }
+    ensures { NamedRead names (F.state files.old) result (F.state files.new) }
 {
     let inputs = read_inputs(alloc, names, files)?;
     let summaries = objects_of(alloc, inputs.as_slice())?;

@@ -1,11 +1,11 @@
 //! Reading the files of inputs, each once and whole, up to the limits on their sizes.
 
-ghost use Rattle.std.specs.Prelude.{◌≡◌, ◌<◌, ◌≤◌, ◌^◌, ◌+◌, ◌∷◌, [], length, map, All, Some, IfErr, IfOk, OnOk};
+ghost use Rattle.std.specs.Prelude.{◌≡◌, ◌<◌, ◌≤◌, ◌^◌, ◌+◌, ◌∷◌, [], length, All, Some, IfErr, IfOk, OnOk};
 ghost use Rattle.lk_report.specs.FileMap.{FileMap};
-ghost use Rattle.lk_inputs.specs.Asked.{AskedInTurn, IsOfReads, ReadAsked, ReadLast, ReadMisses, StatusLast, StatusMisses, StatusNamed, file_name, name_path, known_stats};
-ghost use Rattle.lk_inputs.specs.Named.{file_path};
-ghost use Rattle.lk_inputs.specs.FilesRead.{ContentReported, IsGone, ReadsGive, SizeGives};
-ghost use Rattle.lk_inputs.specs.FileNumbers.{FileFits, NameFits};
+ghost use Rattle.lk_inputs.specs.Asked.{AskedInTurn, IsOfReads, ReadAsked, ReadLast, ReadMisses, StatusLast, StatusMisses, StatusNamed, known_stats};
+ghost use Rattle.lk_inputs.specs.FilesRead.{ContentReported, IsGone, SizeGives};
+ghost use Rattle.lk_inputs.specs.FileNumbers.{NameFits};
+ghost use Rattle.lk_inputs.specs.InputsReading.{InputFilesRead};
 ghost use Rattle.lk_inputs.specs.FileAnswers.{ReadCounts, ReadNoted, ReadReported, StatusCounts, known_map, known_reads, reads_with};
 
 use crate::input_files::{InputFile, InputFileList};
@@ -124,19 +124,7 @@ pub fn read_inputs<F: Files>(
     names: InputNameList,
     files: &mut F,
 ) -> Result<InputFileList, Status>
-    ensures kept { known_map (F.state files.new) ≡ known_map (F.state files.old) }
-    ensures reads { IfOk result (λ inputs. known_reads (F.state files.new) ≡ reads_with (map file_path inputs) (known_reads (F.state files.old))) }
-    ensures reported { (there : FileMap) → known_map (F.state files.old) ≡ Some there → ReadsGive there names result }
-    ensures faults { StatusCounts (F.state files.old) result (F.state files.new) }
-    ensures asked { AskedInTurn (known_reads (F.state files.old)) (map name_path names) result (known_reads (F.state files.new)) }
-    ensures unlooked { known_stats (F.state files.new) ≡ known_stats (F.state files.old) }
-    ensures last { StatusLast (F.state files.old) result (F.state files.new) }
-    ensures misses { StatusMisses (F.state files.old) result (F.state files.new) }
-    ensures named { StatusNamed (map name_path names) result }
-    ensures kinds { IsOfReads result }
-    ensures names { IfOk result (λ inputs. map file_name inputs ≡ names) }
-    ensures short { IfOk result (λ inputs. All (λ input. length input.bytes ≤ 2 ^ 26) inputs) }
-    ensures fit { IfOk result (λ inputs. All FileFits inputs) }
+    ensures { InputFilesRead names (F.state files.old) result (F.state files.new) }
 {
     let mut inputs = List::new(alloc);
     let mut total = 0;

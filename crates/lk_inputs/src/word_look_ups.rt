@@ -1,13 +1,14 @@
 //! The look-ups of the words of inputs: which files are there, and which are missing.
 
-ghost use Rattle.std.specs.Prelude.{◌≡◌, ◌≤◌, false, nat_lt, length, Contains, None, Some, IsSome, IfOk, IfSome, OnOk};
+ghost use Rattle.std.specs.Prelude.{◌≡◌, ◌≤◌, false, nat_lt, length, Contains, None, Some, IfOk, IfSome};
 ghost use Rattle.std.specs.List.{AllByRecursion};
 ghost use Rattle.lk_report.specs.FileMap.{FileMap};
 ghost use Rattle.lk_model.specs.Inputs.{input_words, missing_path};
-ghost use Rattle.lk_inputs.specs.Asked.{AskedInTurn, IsOfReading, LimitFirst, LookUpsAsked, OneMisses, StatusLast, StatusMisses, StatusNamed, UnreadLast, UnreadNamed, WordsMiss, all_places, has_library, look_ups_of, known_stats, word_look_ups, word_places, words_look_ups, words_places};
-ghost use Rattle.lk_inputs.specs.LookUps.{LookUpsGive, SoughtGives, WordReported, WordsReported, inputs_limit};
+ghost use Rattle.lk_inputs.specs.Asked.{AskedInTurn, OneMisses, UnreadLast, UnreadNamed, WordsMiss, has_library, known_stats, word_look_ups, word_places, words_look_ups, words_places};
+ghost use Rattle.lk_inputs.specs.InputsReading.{InputsLookedUp};
+ghost use Rattle.lk_inputs.specs.LookUps.{SoughtGives, WordReported, WordsReported};
 ghost use Rattle.lk_inputs.specs.Named.{word_seen, words_seen};
-ghost use Rattle.lk_inputs.specs.FileAnswers.{StatusCounts, UnreadCounts, known_map, known_reads};
+ghost use Rattle.lk_inputs.specs.FileAnswers.{UnreadCounts, known_map, known_reads};
 
 use crate::input_words::{InputWord, input_words};
 use crate::look_ups::{FoundFile, first_place};
@@ -136,20 +137,7 @@ pub fn look_up_inputs<F: Files>(
     command: &Command,
     files: &mut F,
 ) -> Result<InputNameList, Status>
-    ensures kept { known_map (F.state files.new) ≡ known_map (F.state files.old) }
-    ensures unread { known_reads (F.state files.new) ≡ known_reads (F.state files.old) }
-    ensures reported { (there : FileMap) → known_map (F.state files.old) ≡ Some there → LookUpsGive command.now there result }
-    ensures faults { StatusCounts (F.state files.old) result (F.state files.new) }
-    ensures limit { IsSome (inputs_limit command.now) → F.state files.new ≡ F.state files.old }
-    ensures few { OnOk result (inputs_limit command.now ≡ None) }
-    ensures asked { (there : FileMap) → known_map (F.state files.old) ≡ Some there → LookUpsAsked (known_stats (F.state files.old)) (look_ups_of command.now there) result (known_stats (F.state files.new)) }
-    ensures last { StatusLast (F.state files.old) result (F.state files.new) }
-    ensures misses { has_library (input_words command.now) ≡ false → StatusMisses (F.state files.old) result (F.state files.new) }
-    ensures named { StatusNamed (all_places command.now) result }
-    ensures kinds { IsOfReading command.now result }
-    ensures first { LimitFirst (inputs_limit command.now) result }
-    ensures placed { IfOk result (λ names. AllByRecursion (λ name. Contains (all_places command.now) name.path) names) }
-    ensures within { IfOk result (λ names. length names ≤ 4096) }
+    ensures { InputsLookedUp command.now (F.state files.old) result (F.state files.new) }
 {
     let Ok(rows) = input_words(alloc, command.items.as_slice()) else {
         return Err(Status::NoMemory);

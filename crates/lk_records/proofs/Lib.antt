@@ -1,4 +1,4 @@
 pub mod OccurrencesCounted
-pub mod RecordsMade
+pub mod OneForEach
 pub mod LinkRecorded
 pub mod StacksAsked

@@ -1,8 +1,7 @@
 //! What an image records of a link: its options, inputs and placement.
 
 ghost use Rattle.std.specs.Prelude.{◌≡◌, List, length, map, IfOk};
-ghost use Rattle.lk_model.specs.InputNames.{input_summary};
-ghost use Rattle.lk_model.specs.InputNames.{name_of};
+ghost use Rattle.lk_model.specs.InputNames.{input_summary, name_of};
 ghost use Rattle.lk_model.specs.RecordsOf.{records_of};
 ghost use Rattle.lk_model.specs.Resolving.{resolve};
 ghost use Rattle.lk_model.specs.Views.{Input};

@@ -59,8 +59,8 @@ returns g c =
       reads = subst (λ (before : Paths). IfOk c.read_named.result (λ inputs. known_reads new ≡ reads_with (map file_path inputs.files) before)) c.in_ok-names.ensures.unread c.read_named.ensures.reads;
       sound = c.read_named.ensures.sound;
       alike = c.read_named.ensures.alike;
-      placed = inputs_placed places c.in_ok-names.names c.read_named.result c.in_ok-names.ensures.placed c.read_named.ensures.names;
-      few = few_inputs c.in_ok-names.names c.read_named.result c.in_ok-names.ensures.within c.read_named.ensures.names;
+      placed = inputs_placed places c.in_ok-names.names c.read_named.result c.in_ok-names.ensures.placed c.read_named.ensures.files;
+      few = few_inputs c.in_ok-names.names c.read_named.result c.in_ok-names.ensures.within c.read_named.ensures.files;
       short = c.read_named.ensures.short;
       fit = c.read_named.ensures.fit;
     }

@@ -9,30 +9,66 @@ use Rattle.lk_inputs.specs.Asked.{file_name, name_path}
 use Rattle.lk_inputs.specs.FileAnswers.{known_reads}
 use Rattle.lk_inputs.specs.FileNumbers.{FileFits}
 use Rattle.lk_inputs.proofs.FilesAskedFor.{all_read, done, next_limit, next_there, put_files, put_names, put_reads, reads_ended, reads_named, reads_stopped, status_in_turn}
+use Rattle.lk_inputs.proofs.PassesReported.{reads_given}
 use Rattle.lk_inputs.proofs.reading.read_inputs.Goals as goal
 
-pub returns-in_err-bytes-clause-asked : goal.returns-in_err-bytes-clause-asked
-returns-in_err-bytes-clause-asked g c =
+pub returns-in_err-bytes : goal.returns-in_err-bytes
+returns-in_err-bytes g c =
     let p = err_from_is_err_and c.from_residual.result c.from_residual.ensures.1 in
-    status_in_turn (known_reads (g.F.Files.state c.args.files.now)) (known_reads (g.F.Files.state c.read_file.new.files)) (map name_path c.args.names) p.0 c.from_residual.result p.1
-    (reads_stopped (known_reads (g.F.Files.state c.args.files.now)) (known_reads (g.F.Files.state c.loop-name.files)) (known_reads (g.F.Files.state c.read_file.new.files)) c.args.names (into_iter_items c.loop-name.name-iterator) (into_iter_items c.next.new.self) c.in-Some.name c.loop-name.inputs
-    c.in-Some.ensures.steps.0 c.loop-name.invariant.names c.loop-name.invariant.reads c.in_err-bytes.ensures.asked)
+    record {
+      kept = search rules;
+      unlooked = search rules;
+      reported = search rules;
+      kinds = search rules;
+      faults = search rules;
+      named = reads_named c.args.names (into_iter_items c.loop-name.name-iterator) (into_iter_items c.next.new.self) c.in-Some.name c.loop-name.inputs _ c.from_residual.result
+          c.in-Some.ensures.steps.0 c.loop-name.invariant.names c.in_err-bytes.ensures.named (p.1 ∙ ap (λ s. Err s) p.2);
+      last = search rules;
+      misses = search rules;
+      asked = status_in_turn (known_reads (g.F.Files.state c.args.files.now)) (known_reads (g.F.Files.state c.read_file.new.files)) (map name_path c.args.names) p.0 c.from_residual.result p.1
+          (reads_stopped (known_reads (g.F.Files.state c.args.files.now)) (known_reads (g.F.Files.state c.loop-name.files)) (known_reads (g.F.Files.state c.read_file.new.files)) c.args.names (into_iter_items c.loop-name.name-iterator) (into_iter_items c.next.new.self) c.in-Some.name c.loop-name.inputs
+          c.in-Some.ensures.steps.0 c.loop-name.invariant.names c.loop-name.invariant.reads c.in_err-bytes.ensures.asked);
+      reads = search rules;
+      files = search rules;
+      short = search rules;
+      fit = search rules;
+    }
 
-pub returns-in_err-bytes-clause-named : goal.returns-in_err-bytes-clause-named
-returns-in_err-bytes-clause-named g c =
-    let p = err_from_is_err_and c.from_residual.result c.from_residual.ensures.1 in
-    reads_named c.args.names (into_iter_items c.loop-name.name-iterator) (into_iter_items c.next.new.self) c.in-Some.name c.loop-name.inputs _ c.from_residual.result
-    c.in-Some.ensures.steps.0 c.loop-name.invariant.names c.in_err-bytes.ensures.named (p.1 ∙ ap (λ s. Err s) p.2)
+pub returns-in-Err : goal.returns-in-Err
+returns-in-Err g c = record {
+  kept = search rules;
+  unlooked = search rules;
+  reported = search rules;
+  kinds = search rules;
+  faults = search rules;
+  named = search rules;
+  last = search rules;
+  misses = search rules;
+  asked = reads_ended (known_reads (g.F.Files.state c.args.files.now)) (known_reads (g.F.Files.state c.loop-name.files)) (known_reads (g.F.Files.state c.read_file.new.files)) c.args.names (into_iter_items c.loop-name.name-iterator) (into_iter_items c.next.new.self) c.in-Some.name c.loop-name.inputs
+      c.in-Some.ensures.steps.0 c.loop-name.invariant.names c.loop-name.invariant.reads c.in_ok-bytes.ensures.asked;
+  reads = search rules;
+  files = search rules;
+  short = search rules;
+  fit = search rules;
+}
 
-pub returns-in-Err-clause-asked : goal.returns-in-Err-clause-asked
-returns-in-Err-clause-asked g c =
-    reads_ended (known_reads (g.F.Files.state c.args.files.now)) (known_reads (g.F.Files.state c.loop-name.files)) (known_reads (g.F.Files.state c.read_file.new.files)) c.args.names (into_iter_items c.loop-name.name-iterator) (into_iter_items c.next.new.self) c.in-Some.name c.loop-name.inputs
-    c.in-Some.ensures.steps.0 c.loop-name.invariant.names c.loop-name.invariant.reads c.in_ok-bytes.ensures.asked
-
-pub returns-then-is_err-clause-asked : goal.returns-then-is_err-clause-asked
-returns-then-is_err-clause-asked g c =
-    reads_ended (known_reads (g.F.Files.state c.args.files.now)) (known_reads (g.F.Files.state c.loop-name.files)) (known_reads (g.F.Files.state c.read_file.new.files)) c.args.names (into_iter_items c.loop-name.name-iterator) (into_iter_items c.next.new.self) c.in-Some.name c.loop-name.inputs
-    c.in-Some.ensures.steps.0 c.loop-name.invariant.names c.loop-name.invariant.reads c.in_ok-bytes.ensures.asked
+pub returns-then-is_err : goal.returns-then-is_err
+returns-then-is_err g c = record {
+  kept = search rules;
+  unlooked = search rules;
+  reported = search rules;
+  kinds = search rules;
+  faults = search rules;
+  named = search rules;
+  last = search rules;
+  misses = search rules;
+  asked = reads_ended (known_reads (g.F.Files.state c.args.files.now)) (known_reads (g.F.Files.state c.loop-name.files)) (known_reads (g.F.Files.state c.read_file.new.files)) c.args.names (into_iter_items c.loop-name.name-iterator) (into_iter_items c.next.new.self) c.in-Some.name c.loop-name.inputs
+      c.in-Some.ensures.steps.0 c.loop-name.invariant.names c.loop-name.invariant.reads c.in_ok-bytes.ensures.asked;
+  reads = search rules;
+  files = search rules;
+  short = search rules;
+  fit = search rules;
+}
 
 pub loop-name-preserved : goal.loop-name-preserved
 loop-name-preserved g c =
@@ -67,7 +103,22 @@ loop-name-preserved g c =
       faults = c.in_ok-bytes.ensures.faults ∙ c.loop-name.invariant.faults;
     }
 
-pub returns-clause-asked : goal.returns-clause-asked
-returns-clause-asked g c =
+pub returns : goal.returns
+returns g c =
     let read : map file_name c.loop-name.inputs ≡ c.args.names = grind (arith, common_steps) in
-    all_read (known_reads (g.F.Files.state c.args.files.now)) (known_reads (g.F.Files.state c.loop-name.files)) c.args.names c.loop-name.inputs read c.loop-name.invariant.reads
+    let none : into_iter_items c.loop-name.name-iterator ≡ [] = grind (arith, common_steps) in
+    record {
+      kept = c.loop-name.invariant.kept;
+      unlooked = c.loop-name.invariant.unlooked;
+      reported = λ there e. reads_given there c.args.names (into_iter_items c.loop-name.name-iterator) c.loop-name.total c.loop-name.inputs none (c.loop-name.invariant.inputs there e) (c.loop-name.invariant.limit there e);
+      kinds = search rules;
+      faults = c.loop-name.invariant.faults;
+      named = search rules;
+      last = c.loop-name.invariant.last;
+      misses = c.loop-name.invariant.misses;
+      asked = all_read (known_reads (g.F.Files.state c.args.files.now)) (known_reads (g.F.Files.state c.loop-name.files)) c.args.names c.loop-name.inputs read c.loop-name.invariant.reads;
+      reads = c.loop-name.invariant.reads;
+      files = read;
+      short = c.loop-name.invariant.short;
+      fit = c.loop-name.invariant.fit;
+    }

@@ -1,5 +1,5 @@
 use Rattle.std.proofs.Common.{◌∙◌}
-use Rattle.lk_records.proofs.RecordsMade.{marks_as_many, occurrences_as_many}
+use Rattle.lk_records.proofs.OneForEach.{marks_as_many, occurrences_as_many}
 use Rattle.lk_records.proofs.input_records.input_records.Goals as goal
 
 pub records_of-requires-clause-occurrences : goal.records_of-requires-clause-occurrences
