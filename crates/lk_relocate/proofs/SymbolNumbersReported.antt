@@ -9,7 +9,9 @@ use Rattle.lk_model.specs.declared.summaries.Global.{Global}
 use Rattle.lk_model.specs.declared.summaries.Home.TheVariants as home
 use Rattle.lk_model.specs.declared.summaries.InputSummary.{InputSummary}
 use Rattle.lk_model.specs.declared.summaries.Local.{Local}
+use Rattle.lk_model.specs.Adding.{added_inputs}
 use Rattle.lk_model.specs.Elf.{elf_of}
+use Rattle.lk_model.specs.Finding.{found_of, names_of}
 use Rattle.lk_model.specs.FullPlace.{memory_of}
 use Rattle.lk_model.specs.Lawful.{Lawful}
 use Rattle.lk_model.specs.Objects.{local_in, summary_in}
@@ -19,7 +21,9 @@ use Rattle.lk_model.specs.SymbolValues.{local_of, local_value, name_value, symbo
 use Rattle.lk_model.specs.Views.{Elf, Input, Resolved, Through}
 use Rattle.lk_resolve.specs.Given.{IsGiven}
 use Rattle.lk_symtab.specs.NameRows.{all_symbols}
+use Rattle.lk_symtab.specs.NamesOfSymbols.{name_of_symbol}
 use Rattle.lk_resolve.proofs.Seen.{seen}
+use Rattle.lk_resolve.proofs.SymbolsByNumber.{named_added}
 use Rattle.lk_symbol_values.specs.InputSymbols.{symbol_in}
 use Rattle.lk_symbol_values.specs.SymbolNumbering.{ValueInputs, symbol_numbers_of}
 use Rattle.lk_symbol_values.specs.declared.values.SymbolNumbers.{SymbolNumbers}
@@ -79,6 +83,33 @@ module _ (known : ValueInputs) (n : ℕ) (bytes : List ℕ) (k : ℕ) (r : Resol
   name_numbers_there g name w there number symbol_numbers exact =
       let weak : Bool = g.binding == stb_weak in
       symbol_numbers_there (Through.ByName name weak) w (through_there (Some g) (sym there) ∙ ap (λ m. Through.ByName m weak) (name_there g name number))
+      (record {
+        symbol_numbers = symbol_numbers link.needs link.options link.inputs link.given lawful_there n weak;
+        exact = exact link.needs link.options link.inputs link.given lawful_there link.within;
+      })
+
+  -- a symbol that was added, by the number of its name
+  name_added : (name : ℕ) → name_of_symbol (all_symbols known.resolution.rows) n k ≡ Some name
+      → (g : Global) × (find (λ (x : Global). x.symbol == k) (summary_in (elf_of bytes)).globals ≡ Some g) × (number_of_name chosen.names g.name ≡ name)
+  unfolding found_of resolve
+  name_added name e =
+      let sees = seen known.resolution known.summaries link.needs link.options link.inputs link.given in
+      let found : all_symbols known.resolution.rows ≡ names_of (added_inputs link.options.entry link.inputs) = link.given.found.names in
+      let named = named_added link.options.entry link.inputs n object_there.input object_there.there object_there.summary k name (ap (λ (names : List Contributions). name_of_symbol names n k) (sym found) ∙ e) in
+      (
+        named.0,
+        ap (λ (s : InputSummary). find (λ (x : Global). x.symbol == k) s.globals) (sym (object_there.summary ∙ ap summary_in object_there.file)) ∙ named.1,
+        ap (λ (names : List Contributions). number_of_name names named.0.name) (sees.names ∙ found) ∙ named.2,
+      )
+
+  pub added_numbers_there : (name : ℕ) (w : SymbolNumbers) → Some name ≡ name_of_symbol (all_symbols known.resolution.rows) n k
+      → ((needs : Needs) (options : OptionRecord) (xs : List Input) → IsGiven known.resolution known.summaries needs options xs → Lawful (resolve options xs) known.place → (input : ℕ) (weak : Bool) → w ≡ symbol_numbers_of (resolve options xs) known.place input (Through.ByName name weak))
+      → ((needs : Needs) (options : OptionRecord) (xs : List Input) → IsGiven known.resolution known.summaries needs options xs → Lawful (resolve options xs) known.place → memory_of known.place ≤ 2 ^ 31 → w.value ≡ name_value (resolve options xs) known.place name)
+      → AreNumbersThrough r known.place n (through_of r.names (summary_in (elf_of bytes)) k) w
+  added_numbers_there name w is symbol_numbers exact =
+      let added = name_added name (sym is) in
+      let weak : Bool = added.0.binding == stb_weak in
+      symbol_numbers_there (Through.ByName name weak) w (ap (through_by chosen.names k) added.1 ∙ ap (λ m. Through.ByName m weak) added.2)
       (record {
         symbol_numbers = symbol_numbers link.needs link.options link.inputs link.given lawful_there n weak;
         exact = exact link.needs link.options link.inputs link.given lawful_there link.within;

@@ -5,6 +5,7 @@
 ghost use Rattle.std.specs.Prelude.{◌≡◌, ℕ, ◌==◌, cond, Some, OnOk};
 ghost use Rattle.lk_model.specs.References.{number_of_name};
 ghost use Rattle.lk_symtab.specs.NameRows.{all_symbols};
+ghost use Rattle.lk_symtab.specs.NamesOfSymbols.{name_of_symbol};
 ghost use Rattle.lk_relocate.specs.NumbersOfSymbols.{AreNumbersOf, AreNumbersAt, symbol_numbers_at};
 
 use lk_marks::make_room;
@@ -48,9 +49,32 @@ fn name_number(values: &Values<'_>, name: &Name) -> u32
     values.resolution().names().number_of(name)
 }
 
-/// The numbers of a symbol of the object of an input: a name is looked up by its text, and a LOCAL symbol is read from
-/// the object.
+/// The number of the name of a symbol of an input that was added, by the symbol's number.
+fn added_name(values: &Values<'_>, input: u32, symbol: u32) -> Option<u32>
+    ensures { result ≡ name_of_symbol (all_symbols values.now.resolution.rows) input symbol }
+{
+    values.resolution().names().name_of_symbol(input, symbol)
+}
+
+/// The numbers of a symbol of the object of an input: the name of a symbol that was added is found by the symbol's
+/// number.
 pub(crate) fn find_numbers(
+    values: &Values<'_>,
+    object: &Object,
+    input: u32,
+    symbol: u32,
+) -> SymbolNumbers
+    ensures { AreNumbersAt values.now input object.now symbol result }
+{
+    match added_name(values, input, symbol) {
+        Some(name) => values.name_numbers(name),
+        None => unadded_numbers(values, object, input, symbol),
+    }
+}
+
+/// The numbers of a symbol that was not added: a LOCAL symbol is read from the object, and the name of one in an input
+/// that is not added is looked up by its text.
+fn unadded_numbers(
     values: &Values<'_>,
     object: &Object,
     input: u32,

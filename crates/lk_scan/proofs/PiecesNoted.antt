@@ -1,19 +1,23 @@
 -- Noting references one after another, piece by piece, gives what lk_model finds of them.
-use Rattle.std.proofs.Common.{◌≡◌, refl, sym, ap, subst, ◌∙◌, ℕ, nat_eq, Bool, true, false, cond, List, [], ◌∷◌, ◌++◌, fold, map, flat_map, filter, get_or, Some, Result, Ok, Err}
+use Rattle.std.proofs.Common.{◌≡◌, refl, sym, ap, subst, ◌∙◌, ℕ, nat_eq, ◌==◌, Bool, true, false, cond, List, [], ◌∷◌, ◌++◌, find, fold, length, map, flat_map, filter, get_or, Option, None, Some, unwrap_or, Result, Ok, Err}
 use Rattle.std.proofs.lemmas.List.{append_assoc, append-nil}
 use Rattle.std.proofs.lemmas.List.Sums.{fold-append}
+use Rattle.lk_elf.specs.Numbers.{stb_weak}
 use Rattle.lk_elf.specs.declared.relocation.Rela.{Rela}
 use Rattle.lk_report.specs.declared.faults.Fault.{Fault}
 use Rattle.lk_model.specs.declared.layouts.Needs.{Needs}
+use Rattle.lk_model.specs.declared.summaries.Contributions.{Contributions}
+use Rattle.lk_model.specs.declared.summaries.Global.{Global}
 use Rattle.lk_model.specs.declared.summaries.InputSummary.{InputSummary}
 use Rattle.lk_model.specs.declared.summaries.PieceInfo.{PieceInfo}
 use Rattle.lk_model.specs.Finding.{Found, is_kept_in}
 use Rattle.lk_model.specs.NeedsOf.{address_needs, copy_needs, got_key_eq, got_needs, loaded_references, needs_of, plt_needs}
 use Rattle.lk_model.specs.Numbered.{with_new}
 use Rattle.lk_model.specs.Objects.{pieces_in, relocations_in, summary_in}
-use Rattle.lk_model.specs.References.{Sited, recorded_of, reference_of, references_of, sited_in, through_of}
+use Rattle.lk_model.specs.References.{Sited, number_of_name, recorded_of, reference_of, references_of, sited_in, through_of}
 use Rattle.lk_model.specs.ScanFaults.{faults_at, faults_in, reported_once, with_fault}
 use Rattle.lk_model.specs.Views.{Elf, Ref, Through}
+use Rattle.lk_resolve.specs.NamedSymbols.{AreNamed}
 use Rattle.lk_resolve.specs.Settling.{IsFound, ResolutionValue, is_place_kept}
 use Rattle.lk_symtab.specs.NameRows.{all_symbols}
 use Rattle.lk_scan.specs.declared.noting.Scan.{Scan}
@@ -24,7 +28,8 @@ use Rattle.lk_scan.specs.Noted.{nothing_noted, with_piece, with_pieces, with_ref
 use Rattle.lk_scan.specs.ReferralFaults.{faults_on}
 use Rattle.lk_scan.specs.ReferralNeeds.{needs_with, recorded_on}
 use Rattle.lk_scan.specs.Scans.{Answers, ScanGives, object_references, references_in}
-use Rattle.lk_scan.specs.Targets.{referral_of, setting_of}
+use Rattle.lk_scan.specs.declared.targets.Referral.{Referral}
+use Rattle.lk_scan.specs.Targets.{number_of_symbol, referral_of, setting_of, target_at, through_symbol}
 use Rattle.lk_scan.specs.LinkScans.{joined, scan_of}
 use Rattle.lk_scan.proofs.Joined.{faults-again}
 use Rattle.lk_scan.proofs.NeedsJoined.{needs-again, needs_after}
@@ -60,17 +65,29 @@ needs_next f true n m x rest h =
     })
 needs_next f false n m x rest h = refl
 
-module _ (resolution : ResolutionValue) (found : Found) (elf : Elf) (summary : InputSummary) (input : ℕ) (kept : (i s : ℕ) → is_place_kept resolution.kept i s ≡ is_kept_in found i s) where
+module _ (resolution : ResolutionValue) (found : Found) (elf : Elf) (summary : InputSummary) (input : ℕ) (kept : (i s : ℕ) → is_place_kept resolution.kept i s ≡ is_kept_in found i s) (named : (symbol : ℕ) → through_symbol resolution.rows summary input symbol ≡ through_of (all_symbols resolution.rows) summary symbol) where
   abbrev here : Found
   here = resolution_in resolution found
 
   abbrev sited : PieceInfo → Rela → Sited
   sited p rela = (p.key, reference_of (all_symbols resolution.rows) summary input p.section rela)
 
-  -- one more reference
-  next : (p : PieceInfo) (s : Scan) (rela : Rela) (rest : List Sited) → after here elf (with_referral resolution.rows (get_or resolution.paths input []) (setting_of p.key) s (referral_of resolution elf summary input p.section rela)) rest ≡ after here elf s (sited p rela ∷ rest)
-  next p s rela rest = λ i. record {
-    needs = needs_next here (is_alloc p.key.class) s.needs (needs_with s.needs (referral_of resolution elf summary input p.section rela)) (reference_of (all_symbols resolution.rows) summary input p.section rela) (loaded_references rest)
+  -- a relocation as it is looked at, by what it goes through
+  abbrev referral_to : PieceInfo → Rela → Through → Referral
+  referral_to p rela through = record {
+    input = input;
+    section = p.section;
+    offset = rela.r_offset;
+    code = r_type_of rela;
+    addend = rela.r_addend;
+    target = target_at resolution elf input through;
+  }
+
+  -- one more reference, by the name of its symbol
+  next_by_name : (p : PieceInfo) (s : Scan) (rela : Rela) (rest : List Sited)
+      → after here elf (with_referral resolution.rows (get_or resolution.paths input []) (setting_of p.key) s (referral_to p rela (through_of (all_symbols resolution.rows) summary (r_symbol_of rela)))) rest ≡ after here elf s (sited p rela ∷ rest)
+  next_by_name p s rela rest = λ i. record {
+    needs = needs_next here (is_alloc p.key.class) s.needs (needs_with s.needs (referral_to p rela T)) (reference_of (all_symbols resolution.rows) summary input p.section rela) (loaded_references rest)
         (needs_noted resolution found elf input kept p.section rela.r_offset (r_type_of rela) rela.r_addend s.needs T) i;
     reported = reported i;
     references = references i;
@@ -79,15 +96,21 @@ module _ (resolution : ResolutionValue) (found : Found) (elf : Elf) (summary : I
       T : Through
       T = through_of (all_symbols resolution.rows) summary (r_symbol_of rela)
 
-      reported : fold with_fault (fold with_fault s.reported (faults_on resolution.rows (get_or resolution.paths input []) (setting_of p.key) (referral_of resolution elf summary input p.section rela))) (faults_in here elf rest) ≡ fold with_fault s.reported (faults_at here elf (sited p rela) ++ faults_in here elf rest)
+      reported : fold with_fault (fold with_fault s.reported (faults_on resolution.rows (get_or resolution.paths input []) (setting_of p.key) (referral_to p rela T))) (faults_in here elf rest) ≡ fold with_fault s.reported (faults_at here elf (sited p rela) ++ faults_in here elf rest)
       reported =
           ap (λ (l : List Fault). fold with_fault (fold with_fault s.reported l) (faults_in here elf rest)) (faults_noted resolution found elf input kept p.section rela.r_offset (r_type_of rela) rela.r_addend p.key T)
           ∙ sym (fold-append with_fault s.reported (faults_at here elf (sited p rela)) (faults_in here elf rest))
 
-      references : (s.references ++ recorded_on (referral_of resolution elf summary input p.section rela)) ++ recorded_of (references_of rest) ≡ s.references ++ recorded_of (references_of (sited p rela ∷ rest))
+      references : (s.references ++ recorded_on (referral_to p rela T)) ++ recorded_of (references_of rest) ≡ s.references ++ recorded_of (references_of (sited p rela ∷ rest))
       references =
-          append_assoc s.references (recorded_on (referral_of resolution elf summary input p.section rela)) (recorded_of (references_of rest))
+          append_assoc s.references (recorded_on (referral_to p rela T)) (recorded_of (references_of rest))
           ∙ ap (λ l. s.references ++ l) (recorded_noted resolution found elf input kept p.section rela.r_offset (r_type_of rela) rela.r_addend T (recorded_of (references_of rest)))
+
+  -- one more reference, by the number of its symbol
+  next : (p : PieceInfo) (s : Scan) (rela : Rela) (rest : List Sited) → after here elf (with_referral resolution.rows (get_or resolution.paths input []) (setting_of p.key) s (referral_of resolution elf summary input p.section rela)) rest ≡ after here elf s (sited p rela ∷ rest)
+  next p s rela rest =
+      ap (λ (through : Through). after here elf (with_referral resolution.rows (get_or resolution.paths input []) (setting_of p.key) s (referral_to p rela through)) rest) (named (r_symbol_of rela))
+      ∙ next_by_name p s rela rest
 
   -- the references of one piece, then those of several
   relas : (p : PieceInfo) (s : Scan) (rs : List Rela) (rest : List Sited) → after here elf (with_relas resolution elf summary input p s rs) rest ≡ after here elf s (map (sited p) rs ++ rest)
@@ -126,9 +149,25 @@ IsNoted resolution elf input f =
     let whole : Scan = record { needs = needs_of f refs; reported = reported_once (faults_in f elf refs); references = recorded_of (references_of refs) } in
     with_pieces resolution elf (summary_in elf) input nothing_noted (summary_in elf).pieces ≡ whole
 
-noted_here : (resolution : ResolutionValue) (found : Found) (elf : Elf) (input : ℕ) → ((i s : ℕ) → is_place_kept resolution.kept i s ≡ is_kept_in found i s) → IsNoted resolution elf input (resolution_in resolution found)
+-- through what each relocation of an object goes, by the number of its symbol, where the symbols are named
+abbrev pub GoesByNumber : ResolutionValue → Elf → ℕ → Type 0
+GoesByNumber resolution elf input = (symbol : ℕ) → through_symbol resolution.rows (summary_in elf) input symbol ≡ through_of (all_symbols resolution.rows) (summary_in elf) symbol
+
+goes_by_number : (resolution : ResolutionValue) (found : Found) (elf : Elf) (input : ℕ) → IsFound resolution found → AreNamed found.names input (summary_in elf).globals → GoesByNumber resolution elf input
+goes_by_number resolution found elf input h named = λ symbol. by symbol (find (λ (g : Global). g.symbol == symbol) (summary_in elf).globals) refl
+  where
+    own : AreNamed (all_symbols resolution.rows) input (summary_in elf).globals
+    own = subst (λ (names : List Contributions). AreNamed names input (summary_in elf).globals) (sym h.names) named
+
+    by : (symbol : ℕ) (o : Option Global) → find (λ (g : Global). g.symbol == symbol) (summary_in elf).globals ≡ o
+        → elim o [ None ↦ Through.ByLocal symbol | Some g ↦ Through.ByName (number_of_symbol resolution.rows input g.symbol) (g.binding == stb_weak) ]
+        ≡ elim o [ None ↦ Through.ByLocal symbol | Some g ↦ Through.ByName (number_of_name (all_symbols resolution.rows) g.name) (g.binding == stb_weak) ]
+    by symbol None e = refl
+    by symbol (Some g) e = ap (λ (o : Option ℕ). Through.ByName (unwrap_or o (length resolution.rows)) (g.binding == stb_weak)) (own symbol g e)
+
+noted_here : (resolution : ResolutionValue) (found : Found) (elf : Elf) (input : ℕ) → ((i s : ℕ) → is_place_kept resolution.kept i s ≡ is_kept_in found i s) → GoesByNumber resolution elf input → IsNoted resolution elf input (resolution_in resolution found)
 unfolding needs_of summary_in
-noted_here resolution found elf input kept = all_noted resolution found elf (summary_in elf) input kept nothing_noted (pieces_in elf)
+noted_here resolution found elf input kept named = all_noted resolution found elf (summary_in elf) input kept named nothing_noted (pieces_in elf)
 
 is_resolution : (resolution : ResolutionValue) (found : Found) → IsFound resolution found → resolution_in resolution found ≡ found
 is_resolution resolution found h = λ i. record {
@@ -142,23 +181,23 @@ is_resolution resolution found h = λ i. record {
   sections = found.sections;
 }
 
-noted : (resolution : ResolutionValue) (found : Found) (elf : Elf) (input : ℕ) → IsFound resolution found → IsNoted resolution elf input found
-noted resolution found elf input h = subst (IsNoted resolution elf input) (is_resolution resolution found h) (noted_here resolution found elf input h.kept)
+noted : (resolution : ResolutionValue) (found : Found) (elf : Elf) (input : ℕ) → IsFound resolution found → AreNamed found.names input (summary_in elf).globals → IsNoted resolution elf input found
+noted resolution found elf input h named = subst (IsNoted resolution elf input) (is_resolution resolution found h) (noted_here resolution found elf input h.kept (goes_by_number resolution found elf input h named))
 
-pub scan_answers : (resolution : ResolutionValue) (found : Found) (elf : Elf) (input : ℕ) (scan : Scan) (result : Result Scanned ScanFailure) → IsFound resolution found → scan ≡ with_pieces resolution elf (summary_in elf) input nothing_noted (summary_in elf).pieces → Answers scan result → ScanGives found elf (object_references found elf input) result
-scan_answers resolution found elf input scan result h e answers = by result answers
+pub scan_answers : (resolution : ResolutionValue) (found : Found) (elf : Elf) (input : ℕ) (scan : Scan) (result : Result Scanned ScanFailure) → IsFound resolution found → AreNamed found.names input (summary_in elf).globals → scan ≡ with_pieces resolution elf (summary_in elf) input nothing_noted (summary_in elf).pieces → Answers scan result → ScanGives found elf (object_references found elf input) result
+scan_answers resolution found elf input scan result h named e answers = by result answers
   where
     refs : List Sited
     refs = object_references found elf input
 
     reported : scan.reported ≡ reported_once (faults_in found elf refs)
-    reported = ap (λ (s : Scan). s.reported) (e ∙ noted resolution found elf input h)
+    reported = ap (λ (s : Scan). s.reported) (e ∙ noted resolution found elf input h named)
 
     needs : scan.needs ≡ needs_of found refs
-    needs = ap (λ (s : Scan). s.needs) (e ∙ noted resolution found elf input h)
+    needs = ap (λ (s : Scan). s.needs) (e ∙ noted resolution found elf input h named)
 
     references : scan.references ≡ recorded_of (references_of refs)
-    references = ap (λ (s : Scan). s.references) (e ∙ noted resolution found elf input h)
+    references = ap (λ (s : Scan). s.references) (e ∙ noted resolution found elf input h named)
 
     by : (r : Result Scanned ScanFailure) → Answers scan r → ScanGives found elf refs r
     by (Ok s) a = (sym reported ∙ a.0, a.1 ∙ needs, a.2 ∙ references)
@@ -177,14 +216,14 @@ after_again f elf before sited = λ i. record {
   references = before.references ++ recorded_of (references_of sited);
 }
 
-joins_here : (resolution : ResolutionValue) (found : Found) (elf : Elf) (input : ℕ) (before : Scan) → ((i s : ℕ) → is_place_kept resolution.kept i s ≡ is_kept_in found i s) → JoinsObject resolution elf input before (resolution_in resolution found)
+joins_here : (resolution : ResolutionValue) (found : Found) (elf : Elf) (input : ℕ) (before : Scan) → ((i s : ℕ) → is_place_kept resolution.kept i s ≡ is_kept_in found i s) → GoesByNumber resolution elf input → JoinsObject resolution elf input before (resolution_in resolution found)
 unfolding summary_in
-joins_here resolution found elf input before kept =
-    all_noted resolution found elf (summary_in elf) input kept before (pieces_in elf) ∙ after_again (resolution_in resolution found) elf before (object_references (resolution_in resolution found) elf input)
+joins_here resolution found elf input before kept named =
+    all_noted resolution found elf (summary_in elf) input kept named before (pieces_in elf) ∙ after_again (resolution_in resolution found) elf before (object_references (resolution_in resolution found) elf input)
 
-pub object_joins : (resolution : ResolutionValue) (found : Found) (elf : Elf) (input : ℕ) (before now : Scan) → IsFound resolution found → now ≡ with_pieces resolution elf (summary_in elf) input before (summary_in elf).pieces → now ≡ joined before (scan_of found elf (object_references found elf input))
-object_joins resolution found elf input before now h e =
-    e ∙ subst (JoinsObject resolution elf input before) (is_resolution resolution found h) (joins_here resolution found elf input before h.kept)
+pub object_joins : (resolution : ResolutionValue) (found : Found) (elf : Elf) (input : ℕ) (before now : Scan) → IsFound resolution found → AreNamed found.names input (summary_in elf).globals → now ≡ with_pieces resolution elf (summary_in elf) input before (summary_in elf).pieces → now ≡ joined before (scan_of found elf (object_references found elf input))
+object_joins resolution found elf input before now h named e =
+    e ∙ subst (JoinsObject resolution elf input before) (is_resolution resolution found h) (joins_here resolution found elf input before h.kept (goes_by_number resolution found elf input h named))
 
 pub some_scan : (a b : Scan) → Some a ≡ Some b → a ≡ b
 some_scan a b e = cc

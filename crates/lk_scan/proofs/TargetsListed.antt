@@ -8,13 +8,11 @@ use Rattle.std.specs.List.{range_with_len}
 use Rattle.lk_elf.specs.Numbers.{stb_weak}
 use Rattle.lk_model.specs.declared.summaries.Global.{Global}
 use Rattle.lk_model.specs.declared.summaries.InputSummary.{InputSummary}
-use Rattle.lk_model.specs.References.{number_of_name}
 use Rattle.lk_model.specs.Views.{Elf, Through}
 use Rattle.lk_resolve.specs.Settling.{ResolutionValue}
-use Rattle.lk_symtab.specs.NameRows.{all_symbols}
 use Rattle.lk_scan.specs.declared.targets.Target.{Target}
 use Rattle.lk_scan.specs.SymbolTargets.{count_for, global_target, targets_of, with_globals, with_number}
-use Rattle.lk_scan.specs.Targets.{local_target, symbol_target, target_at}
+use Rattle.lk_scan.specs.Targets.{local_target, number_of_symbol, symbol_target, target_at}
 
 -- the count of a list of symbols is at least the count that it begins with
 rises : (n : ℕ) (gs : List Global) → n ≤ fold with_number n gs
@@ -38,7 +36,7 @@ module _ (resolution : ResolutionValue) (elf : Elf) (input : ℕ) where
   -- the target of a symbol where these are the symbols that are not LOCAL, and a list that has it for each number;
   -- a number past the list is that of a LOCAL symbol
   abbrev among : List Global → ℕ → Target
-  among gs s = elim (find (λ (g : Global). g.symbol == s) gs) [ None ↦ local_target resolution elf input s | Some g ↦ global_target resolution.rows g ]
+  among gs s = elim (find (λ (g : Global). g.symbol == s) gs) [ None ↦ local_target resolution elf input s | Some g ↦ global_target resolution.rows input g ]
 
   abbrev Reports : List Global → List Target → Type 0
   Reports gs ts = (s : ℕ) → get_or ts s (local_target resolution elf input s) ≡ among gs s
@@ -55,34 +53,34 @@ module _ (resolution : ResolutionValue) (elf : Elf) (input : ℕ) where
           get_or_past (local_list n) s (local_target resolution elf input s) (omega arith)
 
   -- putting the symbols that are not LOCAL into the list keeps its length
-  length_kept : (gs : List Global) (ts : List Target) → length (with_globals resolution.rows gs ts) ≡ length ts
+  length_kept : (gs : List Global) (ts : List Target) → length (with_globals resolution.rows input gs ts) ≡ length ts
   length_kept [] ts = refl
-  length_kept (g ∷ gs) ts = length-set (with_globals resolution.rows gs ts) g.symbol (global_target resolution.rows g) ∙ length_kept gs ts
+  length_kept (g ∷ gs) ts = length-set (with_globals resolution.rows input gs ts) g.symbol (global_target resolution.rows input g) ∙ length_kept gs ts
 
-  one_more : (ts : List Target) (g : Global) (gs : List Global) (s : ℕ) → g.symbol < length ts → get_or ts s (local_target resolution elf input s) ≡ among gs s → get_or (set ts g.symbol (global_target resolution.rows g)) s (local_target resolution elf input s) ≡ among (g ∷ gs) s
+  one_more : (ts : List Target) (g : Global) (gs : List Global) (s : ℕ) → g.symbol < length ts → get_or ts s (local_target resolution elf input s) ≡ among gs s → get_or (set ts g.symbol (global_target resolution.rows input g)) s (local_target resolution elf input s) ≡ among (g ∷ gs) s
   one_more ts g gs s inside others = by (g.symbol == s) refl
     where
-      by : (b : Bool) → (g.symbol == s) ≡ b → get_or (set ts g.symbol (global_target resolution.rows g)) s (local_target resolution elf input s) ≡ elim (cond b (Some g) (find (λ (x : Global). x.symbol == s) gs)) [ None ↦ local_target resolution elf input s | Some x ↦ global_target resolution.rows x ]
-      by true e = get_or-set_at ts g.symbol s (global_target resolution.rows g) (local_target resolution elf input s) (same_number g.symbol s e) inside
-      by false e = get_or-set_other ts g.symbol s (global_target resolution.rows g) (local_target resolution elf input s) (other_number g.symbol s e) ∙ others
+      by : (b : Bool) → (g.symbol == s) ≡ b → get_or (set ts g.symbol (global_target resolution.rows input g)) s (local_target resolution elf input s) ≡ elim (cond b (Some g) (find (λ (x : Global). x.symbol == s) gs)) [ None ↦ local_target resolution elf input s | Some x ↦ global_target resolution.rows input x ]
+      by true e = get_or-set_at ts g.symbol s (global_target resolution.rows input g) (local_target resolution elf input s) (same_number g.symbol s e) inside
+      by false e = get_or-set_other ts g.symbol s (global_target resolution.rows input g) (local_target resolution elf input s) (other_number g.symbol s e) ∙ others
 
-  reported_from : (n : ℕ) (gs : List Global) (ts : List Target) → fold with_number n gs ≤ length ts → Reports [] ts → Reports gs (with_globals resolution.rows gs ts)
+  reported_from : (n : ℕ) (gs : List Global) (ts : List Target) → fold with_number n gs ≤ length ts → Reports [] ts → Reports gs (with_globals resolution.rows input gs ts)
   reported_from n [] ts inside base s = base s
   reported_from n (g ∷ gs) ts inside base s =
       let covers : max n (g.symbol + 1) ≤ fold with_number (max n (g.symbol + 1)) gs = rises (max n (g.symbol + 1)) gs in
-      let same : length (with_globals resolution.rows gs ts) ≡ length ts = length_kept gs ts in
-      one_more (with_globals resolution.rows gs ts) g gs s (omega arith) (reported_from (max n (g.symbol + 1)) gs ts inside base s)
+      let same : length (with_globals resolution.rows input gs ts) ≡ length ts = length_kept gs ts in
+      one_more (with_globals resolution.rows input gs ts) g gs s (omega arith) (reported_from (max n (g.symbol + 1)) gs ts inside base s)
 
-  all_reported : (gs : List Global) → Reports gs (with_globals resolution.rows gs (local_list (count_for gs)))
+  all_reported : (gs : List Global) → Reports gs (with_globals resolution.rows input gs (local_list (count_for gs)))
   all_reported gs =
       let size : length (local_list (count_for gs)) ≡ count_for gs = length-map-range_with_len (local_target resolution elf input) 0 (count_for gs) in
       reported_from 0 gs (local_list (count_for gs)) (omega arith) (locals_reported (count_for gs))
 
   -- the target in the list is that of the symbol
   abbrev through : Option Global → ℕ → Through
-  through o s = elim o [ None ↦ Through.ByLocal s | Some g ↦ Through.ByName (number_of_name (all_symbols resolution.rows) g.name) (g.binding == stb_weak) ]
+  through o s = elim o [ None ↦ Through.ByLocal s | Some g ↦ Through.ByName (number_of_symbol resolution.rows input g.symbol) (g.binding == stb_weak) ]
 
-  meanings : (o : Option Global) (s : ℕ) → elim o [ None ↦ local_target resolution elf input s | Some g ↦ global_target resolution.rows g ] ≡ target_at resolution elf input (through o s)
+  meanings : (o : Option Global) (s : ℕ) → elim o [ None ↦ local_target resolution elf input s | Some g ↦ global_target resolution.rows input g ] ≡ target_at resolution elf input (through o s)
   meanings None s = refl
   meanings (Some g) s = refl
 

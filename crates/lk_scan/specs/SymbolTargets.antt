@@ -4,16 +4,15 @@ use Rattle.std.specs.List.{range_with_len}
 use Rattle.lk_elf.specs.Numbers.{stb_weak}
 use Rattle.lk_model.specs.declared.summaries.Global.{Global}
 use Rattle.lk_model.specs.declared.summaries.InputSummary.{InputSummary}
-use Rattle.lk_model.specs.References.{number_of_name}
 use Rattle.lk_model.specs.Views.{Elf}
 use Rattle.lk_resolve.specs.Settling.{ResolutionValue}
-use Rattle.lk_symtab.specs.NameRows.{NameRow, all_symbols}
+use Rattle.lk_symtab.specs.NameRows.{NameRow}
 use Rattle.lk_scan.specs.declared.targets.Target.{Target}
-use Rattle.lk_scan.specs.Targets.{local_target, name_target}
+use Rattle.lk_scan.specs.Targets.{local_target, name_target, number_of_symbol}
 
--- the target of a symbol that is not LOCAL
-abbrev pub global_target : List NameRow → Global → Target
-global_target rows g = name_target rows (number_of_name (all_symbols rows) g.name) (g.binding == stb_weak)
+-- the target of a symbol of an input that is not LOCAL
+abbrev pub global_target : List NameRow → ℕ → Global → Target
+global_target rows input g = name_target rows (number_of_symbol rows input g.symbol) (g.binding == stb_weak)
 
 -- a count that is also above the number of this symbol, and one above the numbers of all these symbols
 abbrev pub with_number : ℕ → Global → ℕ
@@ -23,10 +22,10 @@ abbrev pub count_for : List Global → ℕ
 count_for globals = fold with_number 0 globals
 
 -- targets with those of these symbols put in; where several have one number, that of the first counts
-abbrev pub with_globals : List NameRow → List Global → List Target → List Target
-with_globals rows [] targets = targets
-with_globals rows (g ∷ gs) targets = set (with_globals rows gs targets) g.symbol (global_target rows g)
+abbrev pub with_globals : List NameRow → ℕ → List Global → List Target → List Target
+with_globals rows input [] targets = targets
+with_globals rows input (g ∷ gs) targets = set (with_globals rows input gs targets) g.symbol (global_target rows input g)
 
 -- the targets of an object's symbols, up to the last that is not LOCAL
 abbrev pub targets_of : ResolutionValue → Elf → InputSummary → ℕ → List Target
-targets_of resolution elf summary input = with_globals resolution.rows summary.globals (map (local_target resolution elf input) (range_with_len 0 (count_for summary.globals)))
+targets_of resolution elf summary input = with_globals resolution.rows input summary.globals (map (local_target resolution elf input) (range_with_len 0 (count_for summary.globals)))

@@ -1,6 +1,7 @@
 -- This project's own: the target of a reference, by the rows of the names and the kept sections alone.
-use Rattle.std.specs.Prelude.{ℕ, Bool, false, ◌&&◌, ◌||◌, not, List, length, map, Option, Some, None, option_map, option_and_then, slice_get}
+use Rattle.std.specs.Prelude.{ℕ, ◌==◌, Bool, false, ◌&&◌, ◌||◌, not, List, find, length, map, Option, Some, None, option_map, option_and_then, slice_get, unwrap_or}
 use Rattle.std.specs.List.{range_with_len}
+use Rattle.lk_elf.specs.Numbers.{stb_weak}
 use Rattle.lk_elf.specs.declared.relocation.Rela.{Rela}
 use Rattle.lk_model.specs.declared.layouts.SectionKey.{SectionKey}
 use Rattle.lk_model.specs.declared.summaries.Contributions.{Contributions}
@@ -8,12 +9,12 @@ use Rattle.lk_model.specs.declared.summaries.Global.{Global}
 use Rattle.lk_model.specs.declared.summaries.InputSummary.{InputSummary}
 use Rattle.lk_model.specs.declared.summaries.Winner.{Winner}
 use Rattle.lk_model.specs.Objects.{local_in}
-use Rattle.lk_model.specs.References.{through_of}
 use Rattle.lk_model.specs.ScanFaults.{is_tls_local, is_tls_section, needs_local_sections, of_local_section}
 use Rattle.lk_model.specs.Views.{Elf, Through}
 use Rattle.lk_model.specs.Winners.{import_symbol, is_nothing, is_tls_winner}
 use Rattle.lk_resolve.specs.Settling.{ResolutionValue, is_place_kept}
 use Rattle.lk_symtab.specs.NameRows.{NameRow, all_symbols, row_winner}
+use Rattle.lk_symtab.specs.NamesOfSymbols.{name_of_symbol}
 use Rattle.lk_scan.specs.declared.targets.Import.{Import}
 use Rattle.lk_scan.specs.declared.targets.Referral.{Referral}
 use Rattle.lk_scan.specs.declared.targets.Setting.{Setting}
@@ -76,9 +77,20 @@ abbrev pub target_at : ResolutionValue → Elf → ℕ → Through → Target
 target_at resolution elf input (Through.ByName number weak) = name_target resolution.rows number weak
 target_at resolution elf input (Through.ByLocal symbol) = local_target resolution elf input symbol
 
+-- the number of the name of a symbol of an input, by the symbol's number, or how many names there are where it was not
+-- added; and through what a relocation of the input goes that names a symbol
+abbrev pub number_of_symbol : List NameRow → ℕ → ℕ → ℕ
+number_of_symbol rows input symbol = unwrap_or (name_of_symbol (all_symbols rows) input symbol) (length rows)
+
+abbrev pub through_symbol : List NameRow → InputSummary → ℕ → ℕ → Through
+through_symbol rows summary input symbol = elim (find (λ (g : Global). g.symbol == symbol) summary.globals) [
+  | None ↦ Through.ByLocal symbol
+  | Some g ↦ Through.ByName (number_of_symbol rows input g.symbol) (g.binding == stb_weak)
+]
+
 -- the target of the relocations that name a symbol of an object
 abbrev pub symbol_target : ResolutionValue → Elf → InputSummary → ℕ → ℕ → Target
-symbol_target resolution elf summary input symbol = target_at resolution elf input (through_of (all_symbols resolution.rows) summary symbol)
+symbol_target resolution elf summary input symbol = target_at resolution elf input (through_symbol resolution.rows summary input symbol)
 
 -- a relocation of a section as it is looked at
 abbrev pub referral_of : ResolutionValue → Elf → InputSummary → ℕ → ℕ → Rela → Referral

@@ -4,6 +4,7 @@
 ghost use Rattle.std.specs.Prelude.{◌≡◌, ◌<◌, None, Some, Err, IsErr, OnErr, OnOk, length};
 ghost use Rattle.lk_model.specs.Elf.{elf_of};
 ghost use Rattle.lk_model.specs.Finding.{Found};
+ghost use Rattle.lk_resolve.specs.NamedSymbols.{AreNamed};
 ghost use Rattle.lk_resolve.specs.Settling.{IsFound};
 ghost use Rattle.lk_scan.specs.declared.noting.Scan.{Scan};
 ghost use Rattle.lk_scan.specs.LinkScans.{joined, scan_of};
@@ -84,7 +85,7 @@ impl LinkScan {
     ) -> Result<(), NoMemory>
         requires input { input < length resolution.now.paths }
         requires meanings { meanings.now ≡ meanings_of resolution.now.rows }
-        ensures added { (found : Found) (before : Scan) → IsFound resolution.now found → self.old ≡ Some before → OnOk result (self.new ≡ Some (joined before (scan_of found (elf_of object.now) (object_references found (elf_of object.now) input)))) }
+        ensures added { (found : Found) (before : Scan) → IsFound resolution.now found → AreNamed found.names input (summary_in (elf_of object.now)).globals → self.old ≡ Some before → OnOk result (self.new ≡ Some (joined before (scan_of found (elf_of object.now) (object_references found (elf_of object.now) input)))) }
         ensures wanting { OnErr result (self.new ≡ None) }
         ensures spent { self.old ≡ None → IsErr result }
     {

@@ -5,6 +5,7 @@ ghost use Rattle.std.specs.Prelude.{◌≡◌, ◌<◌, IfOk, nat_lt, length};
 ghost use Rattle.lk_model.specs.Elf.{elf_of};
 ghost use Rattle.lk_model.specs.Finding.{Found};
 ghost use Rattle.lk_model.specs.Objects.{summary_in};
+ghost use Rattle.lk_resolve.specs.NamedSymbols.{AreNamed};
 ghost use Rattle.lk_resolve.specs.Settling.{IsFound};
 ghost use Rattle.lk_scan.specs.Noted.{nothing_noted, with_pieces};
 ghost use Rattle.lk_scan.specs.Scans.{object_references, Answers, ScanGives};
@@ -81,7 +82,8 @@ pub fn answer(alloc: Global, scan: Scan) -> Result<Scanned, ScanFailure>
 
 /// Scans an object, which is the input with this number: the relocations of those of its pieces that are
 /// kept, in order (psABI x86-64, "Relocation Types"). Each is looked at once, and each of the object's
-/// symbols that are not LOCAL is looked up once.
+/// symbols that are not LOCAL is looked up once, by its number: they are named where the object is the one that was
+/// added as this input.
 ///
 /// # Errors
 /// All faults of the references, by piece and relocation, several of one reference in the order in which
@@ -94,7 +96,7 @@ pub fn scan(
     resolution: &Resolution,
 ) -> Result<Scanned, ScanFailure>
     requires { input < length resolution.now.paths }
-    ensures { (found : Found) → IsFound resolution.now found → ScanGives found (elf_of object.now) (object_references found (elf_of object.now) input) result }
+    ensures { (found : Found) → IsFound resolution.now found → AreNamed found.names input (summary_in (elf_of object.now)).globals → ScanGives found (elf_of object.now) (object_references found (elf_of object.now) input) result }
 {
     let Ok(scan) = note_all(alloc, object, input, resolution) else {
         return Err(ScanFailure::NoMemory);

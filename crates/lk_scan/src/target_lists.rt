@@ -72,14 +72,15 @@ fn set_globals(
     targets: &mut [Target],
     names: &SymTab,
     meanings: Option<&NameMeanings>,
+    input: u32,
     globals: &[Symbol],
 )
     requires { IfSome meanings (λ m. m.now ≡ meanings_of names.now) }
-    ensures { targets.new ≡ with_globals names.now globals.now targets.old }
+    ensures { targets.new ≡ with_globals names.now input globals.now targets.old }
 {
     for number in (0..globals.len()).rev() {
         let global = &globals[number];
-        let target = global_target(names, meanings, global);
+        let target = global_target(names, meanings, input, global);
         set_target(targets, global.symbol, target);
     }
 }
@@ -101,6 +102,6 @@ pub fn target_list(
 {
     let globals = object.summary().globals.as_slice();
     let mut targets = local_targets(alloc, resolution, object, input, count_for(globals))?;
-    set_globals(&mut targets, resolution.names(), meanings, globals);
+    set_globals(&mut targets, resolution.names(), meanings, input, globals);
     Ok(targets)
 }

@@ -1,3 +1,4 @@
 pub mod ObjectsRead
 pub mod LinkScanned
 pub mod UnrefusedObjects
+pub mod ObjectsNamed

@@ -63,7 +63,7 @@ object_of-added k added (x ∷ xs) (suc n) h =
 joined-nothing : (s : Scan) → s ≡ joined s nothing_noted
 joined-nothing s = λ i. record { needs = s.needs; reported = s.reported; references = sym (append-nil s.references) i }
 
-object_at : (xs : List Input) (n : ℕ) (x : Input) → slice_get xs n ≡ Some x → AreObjects xs → IsObject x
+pub object_at : (xs : List Input) (n : ℕ) (x : Input) → slice_get xs n ≡ Some x → AreObjects xs → IsObject x
 object_at [] n x e h = absurd (cc)
 object_at (y ∷ xs) zero x e h = let same : y ≡ x = cc in subst IsObject same h.0
 object_at (y ∷ xs) (suc n) x e h = object_at xs n x e h.1

@@ -2,10 +2,12 @@
 use Rattle.std.specs.Prelude.{◌≡◌, ℕ, ◌<◌, List, [], fold, length, Option, Some, None, option_and_then, Result, Ok, Err, slice_get}
 use Rattle.lk_model.specs.Elf.{elf_of}
 use Rattle.lk_model.specs.Finding.{Found}
+use Rattle.lk_model.specs.Objects.{summary_in}
 use Rattle.lk_model.specs.References.{recorded_of}
 use Rattle.lk_model.specs.ScanFaults.{scan_faults}
 use Rattle.lk_model.specs.Views.{Resolved}
 use Rattle.lk_inputs.specs.declared.input_files.InputFile.{InputFile}
+use Rattle.lk_resolve.specs.NamedSymbols.{AreNamed}
 use Rattle.lk_scan.specs.LinkScans.{joined, scan_of}
 use Rattle.lk_scan.specs.Noted.{nothing_noted}
 use Rattle.lk_scan.specs.Scans.{object_references}
@@ -18,6 +20,10 @@ use Rattle.lk_scan_inputs.specs.Objects.{input_names, objects_of}
 -- the object of an input, seen as its bytes
 abbrev pub object_in : List (Option (List ℕ)) → ℕ → Option (List ℕ)
 object_in objects input = option_and_then (λ (o : Option (List ℕ)). o) (slice_get objects input)
+
+-- the symbols of all objects have, by input and number, the numbers of their names
+abbrev pub AreNamedObjects : Found → List (Option (List ℕ)) → Type 0
+AreNamedObjects found objects = (input : ℕ) (bytes : List ℕ) → object_in objects input ≡ Some bytes → AreNamed found.names input (summary_in (elf_of bytes)).globals
 
 -- a scan with that of one more input, where it has an object
 abbrev pub scan_with : Found → List (Option (List ℕ)) → Scan → ℕ → Scan

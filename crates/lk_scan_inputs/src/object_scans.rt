@@ -7,7 +7,7 @@ ghost use Rattle.lk_resolve.specs.Settling.{IsFound};
 ghost use Rattle.lk_scan.specs.Scans.{Answers};
 ghost use Rattle.lk_scan.specs.Targets.{meanings_of};
 ghost use Rattle.lk_scan.specs.declared.noting.Scan.{Scan};
-ghost use Rattle.lk_scan_inputs.specs.Scans.{object_in, scan_with, scans_of};
+ghost use Rattle.lk_scan_inputs.specs.Scans.{AreNamedObjects, object_in, scan_with, scans_of};
 
 use lk_obj_read::Object;
 use lk_report::NoMemory;
@@ -35,7 +35,7 @@ fn add_object(
 ) -> Result<(), NoMemory>
     requires numbered { length objects.now ≤ length resolution.now.paths }
     requires meanings { meanings.now ≡ meanings_of resolution.now.rows }
-    ensures { (found : Found) (before : Scan) → IsFound resolution.now found → scan.old ≡ Some before → OnOk result (scan.new ≡ Some (scan_with found objects.now before input)) }
+    ensures { (found : Found) (before : Scan) → IsFound resolution.now found → AreNamedObjects found objects.now → scan.old ≡ Some before → OnOk result (scan.new ≡ Some (scan_with found objects.now before input)) }
 {
     match object_in(objects, input) {
         Some(object) => scan.add(object, input, resolution, meanings),
@@ -50,7 +50,7 @@ fn scan_added(
     resolution: &Resolution,
 ) -> Result<LinkScan, NoMemory>
     requires { length objects.now ≤ length resolution.now.paths }
-    ensures { (found : Found) → IsFound resolution.now found → IfOk result (λ scan. scan ≡ Some (scans_of found objects.now resolution.now.added)) }
+    ensures { (found : Found) → IsFound resolution.now found → AreNamedObjects found objects.now → IfOk result (λ scan. scan ≡ Some (scans_of found objects.now resolution.now.added)) }
 {
     let meanings = NameMeanings::of(alloc, resolution.names())?;
     let mut scan = LinkScan::new(alloc);
@@ -70,7 +70,7 @@ pub fn scan_objects(
     resolution: &Resolution,
 ) -> Result<Scanned, ScanFailure>
     requires { length objects.now ≤ length resolution.now.paths }
-    ensures { (found : Found) → IsFound resolution.now found → Answers (scans_of found objects.now resolution.now.added) result }
+    ensures { (found : Found) → IsFound resolution.now found → AreNamedObjects found objects.now → Answers (scans_of found objects.now resolution.now.added) result }
 {
     match scan_added(alloc, objects, resolution) {
         Ok(scan) => scan.finish(),

@@ -7,10 +7,10 @@ use Rattle.lk_scan.proofs.PiecesNoted.{object_joins, some_scan}
 use Rattle.lk_scan.proofs.link_scans.LinkScan.add.Goals as goal
 
 pub returns-clause-added : goal.returns-clause-added
-returns-clause-added c = λ found before is_found stored.
+returns-clause-added c = λ found before is_found named stored.
     let was : c.self.inside.scan ≡ before =
     some_scan c.self.inside.scan before (ap (λ b. cond b None (Some c.self.inside.scan)) (sym c.if-self.false) ∙ c.self.view_is ∙ stored) in
     let elf = elf_of c.args.object.now in
     let now : c.note_object.new.scan ≡ with_pieces c.args.resolution.now elf (summary_in elf) c.args.input before (summary_in elf).pieces =
     c.in_ok-note_object.ensures ∙ ap (λ (s : Scan). with_pieces c.args.resolution.now elf (summary_in elf) c.args.input s (summary_in elf).pieces) was in
-    ap Some (object_joins c.args.resolution.now found elf c.args.input before c.note_object.new.scan is_found now)
+    ap Some (object_joins c.args.resolution.now found elf c.args.input before c.note_object.new.scan is_found named now)
