@@ -14,7 +14,7 @@ use Rattle.lk_model.specs.SymbolValues.{got_address}
 use Rattle.lk_model.specs.Tables.{dynamic_address, got_plt_bytes, jump_bytes}
 use Rattle.lk_model.specs.declared.layouts.Placement.{Placement}
 use Rattle.lk_dyn.specs.CallLaws.{second_instruction, JumpsBySlot, SlotPointsBack}
-use Rattle.lk_dyn.proofs.Numbers.{low-bytes}
+use Rattle.lk_elf.proofs.LowBits.{low-bytes}
 
 -- the part with a number begins what is left, where each part has the same width
 part_at :

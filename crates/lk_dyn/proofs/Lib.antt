@@ -1,4 +1,3 @@
-pub mod Numbers
 pub mod ChainsMade
 pub mod PutInTurn
 pub mod SymbolsNumbered

@@ -15,7 +15,7 @@ use Rattle.lk_model.specs.declared.layouts.Placement.{Placement}
 use Rattle.lk_model.specs.declared.layouts.SectionRow.{SectionRow}
 use Rattle.lk_dyn.specs.LowBits.{low_64}
 use Rattle.lk_dyn.specs.JumpSlots.{jump_entry_bytes}
-use Rattle.lk_dyn.proofs.Numbers.{low-long}
+use Rattle.lk_elf.proofs.LowBits.{low-long}
 
 -- a relocation whose place and symbol are by their low bits
 pub low-rela : (offset info : ℕ) (addend : ℤ) → rela_bytes (record { r_offset = low_64 offset; r_info = low_64 info; r_addend = addend }) ≡ rela_bytes (record { r_offset = offset; r_info = info; r_addend = addend })

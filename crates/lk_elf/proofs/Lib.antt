@@ -2,6 +2,7 @@ pub mod Widths
 pub mod Slices
 pub mod Signed
 pub mod Writing
+pub mod LowBits
 pub mod EhdrBack
 pub mod ShdrBack
 pub mod PhdrBack

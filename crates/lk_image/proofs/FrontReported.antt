@@ -17,7 +17,7 @@ use Rattle.lk_model.specs.declared.layouts.SectionRow.{SectionRow}
 use Rattle.lk_model.proofs.LimitsExceeded.{above}
 use Rattle.lk_headers.specs.Front.{FrontGives, front_bytes, front_header, up_to_seal}
 use Rattle.lk_headers.specs.TailRows.{rows_of_parts}
-use Rattle.lk_headers.proofs.FieldBytes.{low-long}
+use Rattle.lk_elf.proofs.LowBits.{low-long}
 use Rattle.lk_headers.proofs.ModelRows.{front}
 use Rattle.lk_symbol_values.specs.Sections.{low_64}
 use Rattle.lk_model.specs.LayoutStatuses.{layout_status}

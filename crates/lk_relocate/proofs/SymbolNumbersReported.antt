@@ -95,8 +95,7 @@ module _ (known : ValueInputs) (n : ℕ) (bytes : List ℕ) (k : ℕ) (r : Resol
   name_added name e =
       let sees = seen known.resolution known.summaries link.needs link.options link.inputs link.given in
       let found : all_symbols known.resolution.rows ≡ names_of (added_inputs link.options.entry link.inputs) = link.given.found.names in
-      let named = named_added link.options.entry link.inputs n object_there.input object_there.there object_there.summary k name (ap (λ (names : List Contributions). name_of_symbol names n k) (sym found) ∙ e) in
-      (
+      let named = named_added link.options.entry link.inputs n object_there.input object_there.there object_there.summary k name (ap (λ (names : List Contributions). name_of_symbol names n k) (sym found) ∙ e) in (
         named.0,
         ap (λ (s : InputSummary). find (λ (x : Global). x.symbol == k) s.globals) (sym (object_there.summary ∙ ap summary_in object_there.file)) ∙ named.1,
         ap (λ (names : List Contributions). number_of_name names named.0.name) (sees.names ∙ found) ∙ named.2,

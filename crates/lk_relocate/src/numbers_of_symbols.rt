@@ -74,12 +74,7 @@ pub(crate) fn find_numbers(
 
 /// The numbers of a symbol that was not added: a LOCAL symbol is read from the object, and the name of one in an input
 /// that is not added is looked up by its text.
-fn unadded_numbers(
-    values: &Values<'_>,
-    object: &Object,
-    input: u32,
-    symbol: u32,
-) -> SymbolNumbers
+fn unadded_numbers(values: &Values<'_>, object: &Object, input: u32, symbol: u32) -> SymbolNumbers
     ensures { AreNumbersAt values.now input object.now symbol result }
 {
     match values.global(input, symbol) {

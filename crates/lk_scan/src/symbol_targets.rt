@@ -20,9 +20,7 @@ use lk_symtab::SymTab;
 fn number_of_symbol(names: &SymTab, input: u32, symbol: u32) -> u32
     ensures { result ≡ number_of_symbol names.now input symbol }
 {
-    names
-        .name_of_symbol(input, symbol)
-        .unwrap_or(names.len())
+    names.name_of_symbol(input, symbol).unwrap_or(names.len())
 }
 
 /// What a symbol of an input means that is not LOCAL: its name is found by its number, and what the name means is found

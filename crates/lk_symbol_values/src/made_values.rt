@@ -52,11 +52,7 @@ fn sections_with_pieces(alloc: Global, pieces: &[PieceRow]) -> Result<Marks, NoM
 fn is_marked(with_pieces: &Marks, number: usize) -> bool
     ensures { result ≡ is_marked with_pieces.now number }
 {
-    with_pieces
-        .as_slice()
-        .get(number)
-        .copied()
-        .unwrap_or(false)
+    with_pieces.as_slice().get(number).copied().unwrap_or(false)
 }
 
 /// Where a section begins and ends.
@@ -104,11 +100,7 @@ fn note_row(
 }
 
 /// Where the loaded sections among these that hold pieces begin and end; of a name that several have the first.
-fn bounds_among(
-    alloc: Global,
-    with_pieces: &Marks,
-    rows: &[SectionRow],
-) -> Result<Bounds, NoMemory>
+fn bounds_among(alloc: Global, with_pieces: &Marks, rows: &[SectionRow]) -> Result<Bounds, NoMemory>
     ensures { IfOk result (λ bounds. FindsBounds (is_marked with_pieces.now) bounds.entries rows.now) }
 {
     let mut bounds = IndexMap::new(alloc);

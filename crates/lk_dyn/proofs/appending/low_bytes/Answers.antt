@@ -1,5 +1,5 @@
 use Rattle.std.proofs.Common.{◌∙◌, ap, take, arith}
-use Rattle.lk_dyn.proofs.Numbers.{take-bytes_of}
+use Rattle.lk_elf.proofs.LowBits.{take-bytes_of}
 use Rattle.lk_dyn.proofs.appending.low_bytes.Goals as goal
 
 pub returns : goal.returns

@@ -3,7 +3,7 @@ use Rattle.std.specs.Prelude.{◌+◌, ◌++◌, ℕ}
 use Rattle.lk_elf.specs.Fields.{bytes_of}
 use Rattle.lk_model.specs.PltEntries.{plt_entry_address}
 use Rattle.lk_model.specs.Tables.{got_plt_bytes, jump_bytes}
-use Rattle.lk_dyn.proofs.Numbers.{low-long}
+use Rattle.lk_elf.proofs.LowBits.{low-long}
 use Rattle.lk_dyn.proofs.PutInTurn.{numbered_step}
 use Rattle.lk_dyn.proofs.calls.got_plt_table.Goals as goal
 

@@ -1,10 +1,8 @@
--- The bytes of a field are those of the low bits of its number.
-use Rattle.std.proofs.Common.{◌≡◌, ℕ, zero, suc, ◌+◌, ◌-◌, ◌*◌, ◌/◌, ◌%◌, ◌^◌, ◌<◌, ◌≤◌, ◌∷◌, take, refl, ap, ◌∙◌, arith}
-use Rattle.std.proofs.Math.Nat.{pow-suc, add-mod-mod, mod-mod}
+-- The bytes of a field are those of the low bits of its number (gABI "Data Representation").
+use Rattle.std.proofs.Common.{◌≡◌, ℕ, zero, suc, ◌+◌, ◌*◌, ◌/◌, ◌%◌, ◌^◌, ◌<◌, ◌≤◌, ◌∷◌, take, refl, ap, arith}
+use Rattle.std.proofs.Math.Nat.{pow-suc}
 use Rattle.std.proofs.Math.Arith.{mod-mul}
 use Rattle.lk_elf.specs.Fields.{bytes_of}
-use Rattle.lk_model.specs.Amounts.{minus}
-use Rattle.lk_dyn.specs.LowBits.{low_64}
 
 -- the lowest bytes
 pub take-bytes_of : (w k n : ℕ) → w ≤ k → take w (bytes_of k n) ≡ bytes_of w n
@@ -34,13 +32,11 @@ low-bytes (suc w) n =
     let rest = low-bytes w (n / 256) in
     rw (power, first, more, rest) refl
 
-pub low-long : (n : ℕ) → bytes_of 8 (low_64 n) ≡ bytes_of 8 n
+pub low-long : (n : ℕ) → bytes_of 8 (n % 2 ^ 64) ≡ bytes_of 8 n
 low-long n = low-bytes 8 n
 
--- a distance by the low bits of both addresses
-pub low-minus : (a b : ℕ) → minus (low_64 a) (low_64 b) ≡ minus a b
-low-minus a b =
-    let rest : ℕ = 2 ^ 64 - b % 2 ^ 64 in
-    let first : low_64 a + rest ≡ rest + low_64 a = omega arith in
-    let last : rest + a ≡ a + rest = omega arith in
-    ap (λ k. (low_64 a + (2 ^ 64 - k)) % 2 ^ 64) (mod-mod b (2 ^ 64)) ∙ ap low_64 first ∙ add-mod-mod rest a (2 ^ 64) ∙ ap low_64 last
+pub low-word : (n : ℕ) → bytes_of 4 (n % 2 ^ 32) ≡ bytes_of 4 n
+low-word n = low-bytes 4 n
+
+pub low-half : (n : ℕ) → bytes_of 2 (n % 2 ^ 16) ≡ bytes_of 2 n
+low-half n = low-bytes 2 n
