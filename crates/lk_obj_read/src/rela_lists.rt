@@ -21,7 +21,10 @@ enum Entries {
         count: usize,
     },
     /// In a copy, which has those of several sections.
-    Joined { bytes: Vec<u8>, count: usize },
+    Joined {
+        bytes: Vec<u8>,
+        count: usize,
+    },
 }
 
 /// Relocations of one section, by the section that holds them and entry (gABI "Relocation"). Those of one section
