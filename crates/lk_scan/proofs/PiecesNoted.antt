@@ -153,6 +153,14 @@ IsNoted resolution elf input f =
 abbrev pub GoesByNumber : ResolutionValue → Elf → ℕ → Type 0
 GoesByNumber resolution elf input = (symbol : ℕ) → through_symbol resolution.rows (summary_in elf) input symbol ≡ through_of (all_symbols resolution.rows) (summary_in elf) symbol
 
+-- through what a relocation goes, by the first global of its symbol's number, with the name's number by the symbol
+abbrev by_symbol : ResolutionValue → ℕ → ℕ → Option Global → Through
+by_symbol resolution input symbol o = elim o [ None ↦ Through.ByLocal symbol | Some g ↦ Through.ByName (number_of_symbol resolution.rows input g.symbol) (g.binding == stb_weak) ]
+
+-- the same, with the name's number by its text
+abbrev by_text : ResolutionValue → ℕ → Option Global → Through
+by_text resolution symbol o = elim o [ None ↦ Through.ByLocal symbol | Some g ↦ Through.ByName (number_of_name (all_symbols resolution.rows) g.name) (g.binding == stb_weak) ]
+
 goes_by_number : (resolution : ResolutionValue) (found : Found) (elf : Elf) (input : ℕ) → IsFound resolution found → AreNamed found.names input (summary_in elf).globals → GoesByNumber resolution elf input
 goes_by_number resolution found elf input h named = λ symbol. by symbol (find (λ (g : Global). g.symbol == symbol) (summary_in elf).globals) refl
   where
@@ -160,8 +168,7 @@ goes_by_number resolution found elf input h named = λ symbol. by symbol (find (
     own = subst (λ (names : List Contributions). AreNamed names input (summary_in elf).globals) (sym h.names) named
 
     by : (symbol : ℕ) (o : Option Global) → find (λ (g : Global). g.symbol == symbol) (summary_in elf).globals ≡ o
-        → elim o [ None ↦ Through.ByLocal symbol | Some g ↦ Through.ByName (number_of_symbol resolution.rows input g.symbol) (g.binding == stb_weak) ]
-        ≡ elim o [ None ↦ Through.ByLocal symbol | Some g ↦ Through.ByName (number_of_name (all_symbols resolution.rows) g.name) (g.binding == stb_weak) ]
+        → by_symbol resolution input symbol o ≡ by_text resolution symbol o
     by symbol None e = refl
     by symbol (Some g) e = ap (λ (o : Option ℕ). Through.ByName (unwrap_or o (length resolution.rows)) (g.binding == stb_weak)) (own symbol g e)
 
