@@ -1,6 +1,6 @@
 -- What words that are accepted as a command say of the answer, and what words that are not answer.
 use Rattle.std.proofs.Common.{◌≡◌, refl, sym, ap, ◌∙◌, ℕ, ◌+◌, Bool, true, false, not, ◌||◌, List, [], ◌∷◌, map, Option, Some, None, Result, Ok, Err}
-use Rattle.std.specs.Prelude.{codes, if◌then◌else◌}
+use Rattle.std.specs.Prelude.{IfOk, codes, if◌then◌else◌}
 use Rattle.std.specs.List.{flat_map, list_any}
 use Rattle.std.proofs.lemmas.List.Folds.{list_any-append}
 use Rattle.lk_report.specs.FileMap.{FileMap}
@@ -18,10 +18,11 @@ use Rattle.lk_model.specs.declared.commands.Item.TheVariants.{One, Lib}
 use Rattle.lk_model.specs.declared.commands.Word.{Word}
 use Rattle.lk_inputs.specs.AnswerLaws.{answer_unless}
 use Rattle.lk_inputs.specs.Asked.{has_library, is_library_row}
+use Rattle.lk_inputs.specs.CommandOfWords.{IsCommand}
 use Rattle.lk_inputs.specs.LookUps.{inputs_limit}
 use Rattle.lk_inputs.specs.Refusals.{inputs_refusal}
 use Rattle.lk_inputs.proofs.AnswersReported.{refusals_reported}
-use Rattle.lk_driver.specs.ImageGiven.{IsAccepted}
+use Rattle.lk_driver.specs.ImageGiven.{IsAccepted, OutputBy, OutputUnless}
 use Rattle.lk_driver.specs.Outer.{words_answer}
 
 -- ---- libraries
@@ -62,13 +63,32 @@ no-library c e = rows-library 1 c.items ∙ either-false (not (is_full c.mode)) 
 
 -- ---- the words and what they decide
 
-pub output_of_command : (words : List (List ℕ)) (c : Command) → grammar words ≡ Ok c → output_of_words words ≡ c.output
+output_of_command : (words : List (List ℕ)) (c : Command) → grammar words ≡ Ok c → output_of_words words ≡ c.output
 unfolding output_of_words
 output_of_command words c e = ap output_where e
 
-pub output_of_refused : (words : List (List ℕ)) (u : UsageFault) → grammar words ≡ Err u → output_of_words words ≡ codes "a.out"
+output_of_refused : (words : List (List ℕ)) (u : UsageFault) → grammar words ≡ Err u → output_of_words words ≡ codes "a.out"
 unfolding output_of_words
 output_of_refused words u e = ap output_where e
+
+unless-reported : {E : Type 0} (words : List (List ℕ)) (s : Status) (result : Result (List ℕ) E) → IsCommand words (Err s) → OutputUnless s result → IfOk result (λ path. path ≡ output_of_words words)
+unless-reported words (status.Usage u) (Ok path) is by = by ∙ sym (output_of_refused words u is)
+unless-reported words (status.Usage u) (Err e) is by = by
+unless-reported words (status.Done how) result is by = absurd is
+unless-reported words (status.LinkError faults) result is by = absurd is
+unless-reported words (status.ReadFault path) result is by = absurd is
+unless-reported words status.DeviceFault result is by = absurd is
+unless-reported words status.NoMemory (Ok path) is by = absurd by
+unless-reported words status.NoMemory (Err e) is by = by
+unless-reported words (status.Limit limit) result is by = absurd is
+unless-reported words (status.NotUpdated cause) result is by = absurd is
+unless-reported words (status.NotYet what) result is by = absurd is
+
+-- the output by what words are is the one that the words name
+pub output_reported : {E : Type 0} (words : List (List ℕ)) (read : Result Command Status) (result : Result (List ℕ) E) → IsCommand words read → OutputBy read result → IfOk result (λ path. path ≡ output_of_words words)
+output_reported words (Ok c) (Ok path) is by = by ∙ sym (output_of_command words c is)
+output_reported words (Ok c) (Err e) is by = by
+output_reported words (Err s) result is by = unless-reported words s result is by
 
 decided : Result Command UsageFault → Option Status
 decided (Err u) = Some (status.Usage u)

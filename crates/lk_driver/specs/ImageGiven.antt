@@ -31,6 +31,11 @@ abbrev pub OutputUnless : {E : Type 0} → Status → Result (List ℕ) E → Ty
 OutputUnless (status.Usage u) result = IfOk result (λ path. path ≡ codes "a.out")
 OutputUnless other result = IfOk result (λ path. ⊥)
 
+-- the output by what words are
+abbrev pub OutputBy : {E : Type 0} → Result Command Status → Result (List ℕ) E → Type 0
+OutputBy (Ok c) result = IfOk result (λ path. path ≡ c.output)
+OutputBy (Err s) result = OutputUnless s result
+
 -- ---- the image
 
 -- the status that an image or a refusal leads to, where the device does not fail

@@ -4,7 +4,7 @@ ghost use Rattle.std.specs.Prelude.{◌≡◌, IfOk};
 ghost use Rattle.std.specs.List.{list_any};
 ghost use Rattle.lk_model.specs.Answers.{is_full as full_mode, is_library, waits_words, words_in};
 ghost use Rattle.lk_model.specs.Grammar.{output_of_words};
-ghost use Rattle.lk_driver.specs.ImageGiven.{OutputUnless, WordsGive};
+ghost use Rattle.lk_driver.specs.ImageGiven.{OutputBy, OutputUnless, WordsGive};
 
 use lk_inputs::command_of;
 use lk_model::commands::{Command, Item, Mode, Word};
@@ -64,17 +64,6 @@ pub fn accepted_command(alloc: Global, words: &NameList) -> Result<Command, Stat
     Ok(command)
 }
 
-/// The path of the output that words name; `a.out` where they name none or are refused.
-#[tactic(auto, using(crate::proofs::OuterWords::output_of_command, crate::proofs::OuterWords::output_of_refused))]
-pub fn output_of(alloc: Global, words: &NameList) -> Result<Name, NoMemory>
-    ensures { IfOk result (λ path. path ≡ output_of_words words.now) }
-{
-    match command_of(alloc, words) {
-        Ok(command) => command.output.copy(alloc),
-        Err(status) => output_unless(alloc, &status),
-    }
-}
-
 /// The path of the output of refused words; out of memory at any other status.
 fn output_unless(alloc: Global, status: &Status) -> Result<Name, NoMemory>
     ensures { OutputUnless status.now result }
@@ -83,4 +72,22 @@ fn output_unless(alloc: Global, status: &Status) -> Result<Name, NoMemory>
         Status::Usage(_) => Name::from_slice(alloc, b"a.out"),
         _ => Err(NoMemory),
     }
+}
+
+/// The path of the output by what words are: the command's own, or that of refused words.
+fn output_by(alloc: Global, read: &Result<Command, Status>) -> Result<Name, NoMemory>
+    ensures { OutputBy read.now result }
+{
+    match read {
+        Ok(command) => command.output.copy(alloc),
+        Err(status) => output_unless(alloc, status),
+    }
+}
+
+/// The path of the output that words name; `a.out` where they name none or are refused.
+pub fn output_of(alloc: Global, words: &NameList) -> Result<Name, NoMemory>
+    ensures { IfOk result (λ path. path ≡ output_of_words words.now) }
+{
+    let read = command_of(alloc, words);
+    output_by(alloc, &read)
 }
