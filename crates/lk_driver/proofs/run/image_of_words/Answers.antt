@@ -103,15 +103,15 @@ returns g c =
     let resolution = c.in_ok-resolution.resolution in
     let scanned = c.in_ok-scanned.scanned in
     let placement = c.in_ok-placement.placement in
-    linked c.args.words.now command (g.F.Files.state c.args.files.now) (g.F.Files.state c.read_command.new.files) inputs c.link_image.result c.in_ok-command.ensures c.in_ok-inputs.ensures (λ xs read.
+    linked c.args.words.now command (g.F.Files.state c.args.files.now) (g.F.Files.state c.read_command.new.files) inputs c.link_image-image.result c.in_ok-command.ensures c.in_ok-inputs.ensures (λ xs read.
     let r = resolve options xs in
     let names = resolution_answers options xs resolution (c.in_ok-resolution.ensures.resolution xs read.given) in
     let scan = scan_goes_on r inputs.files scanned (c.in_ok-scanned.ensures.scanned options xs read.given.files read.objects names.1) in
     let link : IsScannedLink options xs inputs resolution scanned = record { read = read; fit = c.in_ok-inputs.ensures.fit; found = names.1; scan = scan.1 } in
     let place = place_goes_on r placement (c.in_ok-placement.ensures.placed xs (given options xs inputs resolution scanned link)) in
-    link_answers r (needs_answer r) c.link_image.result (names.0 ∙ scan.0)
-    (image_reported options xs inputs resolution scanned link c.in_ok-check_needs.ensures placement place c.link_image.result
+    link_answers r (needs_answer r) c.link_image-image.result (names.0 ∙ scan.0)
+    (image_reported options xs inputs resolution scanned link c.in_ok-check_needs.ensures placement place c.link_image-image.result
     (λ ys placed are.
-    c.link_image.ensures ys
+    c.link_image-image.ensures ys
     (subst (λ objects. IsPlacedLink resolution inputs.summaries objects options ys placement) (sym c.as_slice-made.ensures) placed)
     (c.as_slice-known.ensures ∙ are))))
