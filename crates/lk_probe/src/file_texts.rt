@@ -59,10 +59,10 @@ pub fn one_fault(alloc: Global, fault: Fault) -> Status
 }
 
 /// What is said of a file of these bytes, or the status that is reported in its place.
-fn bytes_reported(alloc: Global, path: Name, bytes: &[u8]) -> Result<Bytes, Status>
-    ensures { ReportsBytes path bytes.now result }
+fn bytes_reported(alloc: Global, path: Name, file: &Bytes) -> Result<Bytes, Status>
+    ensures { ReportsBytes path file.now result }
 {
-    match judged(alloc, bytes, &path) {
+    match judged(alloc, file, &path) {
         Verdict::Object { sections, symbols } => object_reported(alloc, sections, symbols),
         Verdict::Shared(facts) => shared_reported(alloc, &facts),
         Verdict::Faulty(fault) => Err(one_fault(alloc, Fault::Input { path, fault })),
@@ -82,7 +82,7 @@ pub fn file_reported<F: Files>(alloc: Global, path: Name, files: &mut F) -> Resu
     ensures faults { StatusCounts (F.state files.old) result (F.state files.new) }
 {
     match files.read(&path) {
-        ReadAnswer::Got(bytes) => bytes_reported(alloc, path, bytes.as_slice()),
+        ReadAnswer::Got(bytes) => bytes_reported(alloc, path, &bytes),
         ReadAnswer::Absent => Err(one_fault(alloc, Fault::Missing { path })),
         ReadAnswer::Failed => Err(Status::ReadFault(path)),
         ReadAnswer::NoMemory => Err(Status::NoMemory),

@@ -11,7 +11,7 @@ use lk_model::limits::MOST_INPUT_BYTES;
 use lk_model::summaries::Kind;
 use lk_obj_parts::{read_sections, read_symbols};
 use lk_obj_read::object_fault;
-use lk_report::{InputFault, LimitFault, LimitKind, Name, NoMemory};
+use lk_report::{Bytes, InputFault, LimitFault, LimitKind, Name, NoMemory};
 use lk_summary::{ReadFailure, kind_of};
 use std::alloc::Global;
 
@@ -31,31 +31,31 @@ pub enum Verdict {
 }
 
 /// What the bytes of a file at a path are.
-pub fn judged(alloc: Global, bytes: &[u8], path: &Name) -> Verdict
-    ensures { IsJudged path.now bytes.now result }
+pub fn judged(alloc: Global, file: &Bytes, path: &Name) -> Verdict
+    ensures { IsJudged path.now file.now result }
 {
-    if bytes.len() as u64 > MOST_INPUT_BYTES {
+    if file.as_slice().len() as u64 > MOST_INPUT_BYTES {
         return Verdict::TooLong(LimitFault {
             which: LimitKind::InputSize,
-            number: bytes.len() as u64,
+            number: file.as_slice().len() as u64,
         });
     }
-    match kind_of(bytes) {
-        Ok(Kind::Object) => judged_object(alloc, bytes),
-        Ok(Kind::Shared) => judged_shared(alloc, bytes, path),
+    match kind_of(file.as_slice()) {
+        Ok(Kind::Object) => judged_object(alloc, file),
+        Ok(Kind::Shared) => judged_shared(alloc, file, path),
         Err(fault) => Verdict::Faulty(fault),
     }
 }
 
 /// What the bytes of a relocatable object are.
 #[tactic(auto, using(crate::proofs::FirstHeaders::has_header))]
-fn judged_object(alloc: Global, bytes: &[u8]) -> Verdict
-    requires short { length bytes.now ≤ 2 ^ 26 }
-    requires relocatable { kind_of bytes.now ≡ Ok Kind.Object }
-    ensures { (path : List ℕ) → IsJudged path bytes.now result }
+fn judged_object(alloc: Global, file: &Bytes) -> Verdict
+    requires short { length file.now ≤ 2 ^ 26 }
+    requires relocatable { kind_of file.now ≡ Ok Kind.Object }
+    ensures { (path : List ℕ) → IsJudged path file.now result }
 {
-    match object_fault(alloc, bytes) {
-        Ok(None) => counted(alloc, bytes),
+    match object_fault(alloc, file.as_slice()) {
+        Ok(None) => counted(alloc, file),
         Ok(Some(fault)) => Verdict::Faulty(fault),
         Err(NoMemory) => Verdict::NoMemory,
     }
@@ -63,12 +63,12 @@ fn judged_object(alloc: Global, bytes: &[u8]) -> Verdict
 
 /// What the bytes of a shared object at a path are.
 #[tactic(auto, using(lk_summary::proofs::KindsKnown::no_header))]
-fn judged_shared(alloc: Global, bytes: &[u8], path: &Name) -> Verdict
-    requires short { length bytes.now ≤ 2 ^ 26 }
-    requires shared { kind_of bytes.now ≡ Ok Kind.Shared }
-    ensures { IsJudged path.now bytes.now result }
+fn judged_shared(alloc: Global, file: &Bytes, path: &Name) -> Verdict
+    requires short { length file.now ≤ 2 ^ 26 }
+    requires shared { kind_of file.now ≡ Ok Kind.Shared }
+    ensures { IsJudged path.now file.now result }
 {
-    match facts_of(alloc, bytes, path) {
+    match facts_of(alloc, file, path) {
         Ok(facts) => Verdict::Shared(facts),
         Err(ReadFailure::Input(fault)) => Verdict::Faulty(fault),
         Err(ReadFailure::NoMemory) => Verdict::NoMemory,
@@ -76,24 +76,25 @@ fn judged_shared(alloc: Global, bytes: &[u8], path: &Name) -> Verdict
 }
 
 /// An object with its counts.
-fn counted(alloc: Global, bytes: &[u8]) -> Verdict
-    requires sound { object_fault bytes.now ≡ None }
-    requires relocatable { kind_of bytes.now ≡ Ok Kind.Object }
-    requires short { length bytes.now ≤ 2 ^ 26 }
-    requires headed { 64 ≤ length bytes.now }
-    ensures { (path : List ℕ) → IsJudged path bytes.now result }
+fn counted(alloc: Global, file: &Bytes) -> Verdict
+    requires sound { object_fault file.now ≡ None }
+    requires relocatable { kind_of file.now ≡ Ok Kind.Object }
+    requires short { length file.now ≤ 2 ^ 26 }
+    requires headed { 64 ≤ length file.now }
+    ensures { (path : List ℕ) → IsJudged path file.now result }
 {
-    match counts(alloc, bytes) {
+    match counts(alloc, file) {
         Ok((sections, symbols)) => Verdict::Object { sections, symbols },
         Err(NoMemory) => Verdict::NoMemory,
     }
 }
 
 /// The numbers of section headers and of entries of the symbol table.
-fn counts(alloc: Global, bytes: &[u8]) -> Result<(usize, usize), NoMemory>
-    requires headed { 64 ≤ length bytes.now }
-    ensures { IfOk result (AreCounts bytes.now) }
+fn counts(alloc: Global, file: &Bytes) -> Result<(usize, usize), NoMemory>
+    requires headed { 64 ≤ length file.now }
+    ensures { IfOk result (AreCounts file.now) }
 {
+    let bytes = file.as_slice();
     let Ok(header) = Ehdr::read_at(bytes, 0) else {
         return Ok((0, 0));
     };

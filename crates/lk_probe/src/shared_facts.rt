@@ -7,7 +7,7 @@ ghost use Rattle.lk_probe.specs.SharedFacts.{facts_of, is_counted_type, is_defin
 
 use lk_elf::numbers::{STB_WEAK, STT_FUNC, STT_OBJECT, STT_TLS};
 use lk_model::summaries::{Global as Symbol, Home};
-use lk_report::{Name, NameList};
+use lk_report::{Bytes, Name, NameList};
 use lk_so_read::{ReadFailure, needs_of, read_shared};
 use std::alloc::Global;
 
@@ -129,12 +129,12 @@ fn counts_of(symbols: &[Symbol]) -> SymbolCounts
 /// # Errors
 /// The first fault of the file, or out of memory.
 #[tactic(auto, unfolding(crate::specs::SharedFacts::facts_of, lk_model::specs::SharedObjects::shared_summary_in))]
-pub fn facts_of(alloc: Global, bytes: &[u8], path: &Name) -> Result<SharedFacts, ReadFailure>
-    requires headed { 64 ≤ length bytes.now }
-    ensures { ReadGives (shared_fault bytes.now) (λ facts. facts ≡ facts_of path.now bytes.now) result }
+pub fn facts_of(alloc: Global, file: &Bytes, path: &Name) -> Result<SharedFacts, ReadFailure>
+    requires headed { 64 ≤ length file.now }
+    ensures { ReadGives (shared_fault file.now) (λ facts. facts ≡ facts_of path.now file.now) result }
 {
-    let summary = read_shared(alloc, bytes, path)?;
-    let needs = needs_of(alloc, bytes)?;
+    let summary = read_shared(alloc, file, path)?;
+    let needs = needs_of(alloc, file.as_slice())?;
     let symbols = counts_of(summary.globals.as_slice());
     Ok(SharedFacts {
         soname: summary.soname,

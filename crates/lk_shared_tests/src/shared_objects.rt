@@ -2,7 +2,7 @@
 //! needs, and the faults of files that differ from it in one place.
 
 use lk_model::summaries::{Home, InputSummary, Kind};
-use lk_report::{InputFault, Name, NoMemory};
+use lk_report::{Bytes, InputFault, Name, NoMemory};
 use lk_so_read::{ReadFailure, needs_of, read_shared};
 use std::alloc::Global;
 
@@ -64,8 +64,9 @@ fn changed(at: usize, byte: u8) -> [u8; 592] {
 
 /// What is kept of a file at a path.
 pub fn read(alloc: Global, bytes: &[u8], path: &[u8]) -> Result<InputSummary, ReadFailure> {
+    let file = Bytes::from_slice(alloc, bytes)?;
     let path = Name::from_slice(alloc, path)?;
-    read_shared(alloc, bytes, &path)
+    read_shared(alloc, &file, &path)
 }
 
 #[test]

@@ -1,5 +1,5 @@
 -- Names that are defined, as a set of texts.
-use Rattle.std.specs.Prelude.{◌≡◌, refl, ℕ, ◌==◌, Bool, true, false, if◌then◌else◌, not, ◌||◌, List, [], ◌∷◌, ◌++◌, bytes_eq, Result, Ok, Err, OnOk}
+use Rattle.std.specs.Prelude.{◌≡◌, refl, ℕ, ◌==◌, Bool, true, false, if◌then◌else◌, not, ◌||◌, List, [], ◌∷◌, ◌++◌, bytes_eq, Option, Some, unwrap_or, Result, Ok, Err, OnOk}
 use Rattle.std.specs.Borrow.{Bor}
 use Rattle.std.specs.List.{list_any}
 use Rattle.std.proofs.Common.{ap, sym, ◌∙◌}
@@ -83,3 +83,7 @@ noted_first kept more names new k symbol name is_kept t o noted e =
 pub on_success : {X E P Q : Type 0} (r : Result X E) → (P → Q) → OnOk r P → OnOk r Q
 on_success (Ok x) f p = f p
 on_success (Err e) f p = tt
+
+-- two texts that are there and equal as options are equal
+pub named_text : {a b : List ℕ} → Some a ≡ Some b → a ≡ b
+named_text {a} e = ap (λ (o : Option (List ℕ)). unwrap_or o a) e

@@ -1,10 +1,12 @@
 //! Which symbols of a shared object other files may mean (gABI "Symbol Table"; STB_GNU_UNIQUE and
 //! STT_GNU_IFUNC of the GNU gABI), and that of two definitions of one name the first counts.
 
-ghost use Rattle.std.specs.Prelude.{◌≡◌, [], ◌∷◌, ◌++◌, IfOk, OnOk};
+ghost use Rattle.std.specs.Prelude.{◌≡◌, [], ◌∷◌, ◌++◌, IfOk, OnOk, Some};
 ghost use Rattle.lk_model.specs.SharedObjects.{is_offered, is_outer_binding, is_seen, shared_binding, shared_global, shared_home, shared_type};
+ghost use Rattle.lk_obj_parts.specs.SymbolParts.{name_in};
 ghost use Rattle.lk_so_read.specs.OfferedSymbols.{IsNoted, SymbolNoted, texts_in, with_symbol};
 
+use crate::string_texts::SymbolNames;
 use indexmap::IndexSet;
 use lk_elf::Sym;
 use lk_elf::numbers::{
@@ -129,7 +131,6 @@ fn keep(kept: &mut Vec<Symbol>, symbol: Symbol) -> Result<(), NoMemory>
 /// Contracts see them with the names that are defined, in the order of their definitions.
 #[derive(Drop)]
 pub(crate) struct Offered<'a> {
-    alloc: Global,
     kept: Vec<Symbol>,
     defined: IndexSet<&'a [u8]>,
 }
@@ -153,25 +154,31 @@ impl<'a> Offered<'a> {
         let Ok(defined) = IndexSet::with_capacity(alloc, count) else {
             return Err(NoMemory);
         };
-        Ok(Offered {
-            alloc,
-            kept,
-            defined,
-        })
+        Ok(Offered { kept, defined })
     }
 
-    /// Looks at one more symbol with its number and name: it is kept if other files may mean it, and no symbol
-    /// before it defines the name that it defines.
-    pub(crate) fn add(&mut self, k: u32, symbol: &Sym, name: &'a [u8]) -> Result<(), NoMemory>
-        ensures { OnOk result (self.new ≡ with_symbol self.old k symbol.now name.now) }
+    /// Looks at one more symbol with its number and name, which is one of these: it is kept if other files may mean
+    /// it, and no symbol before it defines the name that it defines.
+    pub(crate) fn add(
+        &mut self,
+        k: u32,
+        symbol: &Sym,
+        text: &'a [u8],
+        names: &SymbolNames<'_>,
+    ) -> Result<(), NoMemory>
+        requires named { name_in names.now.file.now names.now.sections.now names.now.strings symbol.now.st_name ≡ Some text.now }
+        ensures { OnOk result (self.new ≡ with_symbol self.old k symbol.now text.now) }
     {
         if !is_offered(symbol) {
             return Ok(());
         }
-        if !note_symbol(&mut self.defined, symbol, name)? {
+        if !note_symbol(&mut self.defined, symbol, text)? {
             return Ok(());
         }
-        let name = Name::from_slice(self.alloc, name)?;
+        let found = names.name(symbol.st_name)?;
+        let Some(name) = found else {
+            return Err(NoMemory);
+        };
         keep(&mut self.kept, shared_global(k, symbol, name))
     }
 
