@@ -109,3 +109,17 @@ def changed(*changes):
     for place, width, number in changes:
         out[place : place + width] = number.to_bytes(width, "little")
     return bytes(out)
+
+
+def moved(number, *changes):
+    """The shared object with the bytes of a section once more at its end, where its header has them now."""
+    size = len(SECTIONS[number - 1][3])
+    return changed(sec(number, "offset", len(SHARED)), *changes) + SHARED[PLACES[number] : PLACES[number] + size]
+
+
+def good(soname="lib.so.3", needs=("libc.so.6",), functions=3, objects=2, tls=1, others=1, references=1, weak=1):
+    """What is said of the shared object as it is, or with something changed."""
+    lines = ["shared object: " + soname] + ["needs: " + need for need in needs]
+    lines.append("symbols: %d functions, %d objects, %d thread-local, %d others, %d references, %d weak"
+                 % (functions, objects, tls, others, references, weak))
+    return "\n".join(lines) + "\n"

@@ -1,6 +1,7 @@
 """The rules of shared objects, written anew (gABI "ELF Header", "Sections", "Symbol Table", "Dynamic Section"):
 the first fault of a file, or what is said of it."""
 
+import itertools
 import struct
 
 NULL, STRTAB, DYNAMIC, NOBITS, DYNSYM = 0, 3, 6, 8, 11
@@ -49,26 +50,21 @@ class Elf:
         end = self.data.find(b"\0", start, stop) if start < stop else -1
         return self.data[start:end] if end >= 0 else None
 
-    def entries(self, number, size):
-        """The entries of a table of this entry size, where the file holds them."""
-        _, _, _, _, at, length, _, _, _, _ = self.section(number)
+    def entries(self, number, form):
+        """The entries of a table of this form, where the file holds them."""
+        at, length = self.section(number)[4:6]
         if at + length > len(self.data):
             return []
-        return [self.data[at + size * k : at + size * (k + 1)] for k in range(length // size)]
+        length -= length % struct.calcsize(form)
+        return list(struct.iter_unpack(form, self.data[at : at + length]))
 
     def symbols(self, number):
-        """The symbols of a table with their numbers, without the null symbol."""
-        return [(k, struct.unpack("<IBBHQQ", s)) for k, s in enumerate(self.entries(number, 24)) if k]
+        """The symbols of a table without the null symbol."""
+        return self.entries(number, "<IBBHQQ")[1:]
 
     def dynamic(self, number):
         """The entries of a dynamic section before its first NULL."""
-        counted = []
-        for entry in self.entries(number, 16):
-            tag, value = struct.unpack("<qQ", entry)
-            if tag == DT_NULL:
-                break
-            counted.append((tag, value))
-        return counted
+        return list(itertools.takewhile(lambda entry: entry[0] != DT_NULL, self.entries(number, "<qQ")))
 
     def soname(self, number):
         """What the first SONAME of a dynamic section says, or None."""
@@ -118,9 +114,9 @@ def table_fault(elf):
 def name_fault(elf):
     """The first fault of the names, or None."""
     symbols, dynamic = elf.first(DYNSYM), elf.first(DYNAMIC)
-    for _, symbol in elf.symbols(symbols):
-        if elf.text(elf.section(symbols)[6], symbol[0]) is None:
-            return "BadName %d" % symbols
+    strings = elf.section(symbols)[6]
+    if any(elf.text(strings, symbol[0]) is None for symbol in elf.symbols(symbols)):
+        return "BadName %d" % symbols
     soname = elf.soname(dynamic)
     if soname is not None and elf.text(elf.section(dynamic)[6], soname) is None:
         return "BadName %d" % dynamic
@@ -139,7 +135,7 @@ def first_fault(data):
 def kept_symbols(elf):
     """The symbols that other files may mean, each as (name, kind, is it weak)."""
     table, defined, kept = elf.first(DYNSYM), set(), []
-    for _, (name, info, other, section, _, _) in elf.symbols(table):
+    for name, info, other, section, _, _ in elf.symbols(table):
         if info // 16 not in (1, 2, 10) or other % 4 not in (0, 3):
             continue
         text = elf.text(elf.section(table)[6], name)

@@ -1,27 +1,24 @@
-"""Real shared objects cut off and with header fields at their greatest values, against the rules written anew.
+"""Real shared objects cut off and with fields at their greatest values, against the rules written anew.
 
     variants.py lk_probe SMALL LARGE [--all]     two shared objects, of which the second is longer than 64 KiB
 
-SMALL is cut at every length, as it is and with its section headers at the front, where a cut leaves them whole; LARGE
-is cut at every sixteenth length below 64 KiB (at every one with `--all`) and at a thousand places beyond; and every
-field of the file header and of the section headers of both is put at its greatest value. Each answer must be the one
-that rules.py finds.
+Both are cut as they are, and with their section headers at the front, where a cut leaves these whole and goes into the
+tables: with `--all` at every length below 64 KiB and at a thousand beyond, else at a small part of these; in both
+cases next to the ends of all sections. And every field of their file headers, section headers, dynamic entries and
+symbols (the first hundred of each file) is put at its greatest value, of LARGE without `--all` a few of them. Each
+answer must be the one that rules.py finds.
 """
 
-import concurrent.futures
 import os
-import random
 import struct
-import subprocess
 import sys
 
 import rules
 
-# The widths of the fields of the two headers, in order (gABI "ELF Header", "Sections").
-FILE_HEADER = [1] * 16 + [2, 2, 4, 8, 8, 8, 4, 2, 2, 2, 2, 2, 2]
-SECTION_HEADER = [4, 4, 8, 8, 8, 8, 4, 4, 8, 8]
-EDGE = 65536
-STEP = 256  # variants that one process tries before it reports
+sys.path.append(os.path.join(os.path.dirname(os.path.abspath(__file__)), os.pardir))
+from mutations import ENTRY, FILE_HEADER, SECTION_HEADER, SYMBOL, count_wrong, cuts, fields, fields_of, lengths_of, parts_of
+
+MOST_SYMBOLS = 100  # whose fields are put at their greatest values
 
 
 def section_table(whole):
@@ -42,96 +39,48 @@ def fronted(whole):
     return bytes(file_header + headers) + whole[64:]
 
 
-def fields_of(whole):
-    """The place and width of each field of the file header and of the section headers."""
+def edges_of(whole):
+    """Where the file header, the section headers and the bytes of each section begin and end."""
     table, count = section_table(whole)
-    for start, widths in [(0, FILE_HEADER)] + [(table + 64 * number, SECTION_HEADER) for number in range(count)]:
-        place = start
-        for width in widths:
-            yield place, width
-            place += width
+    edges = {0, 64, table, table + 64 * count, len(whole)}
+    for _, code, _, _, place, size, _, _, _, _ in rules.Elf(whole).sections:
+        edges |= {place, place + size} if code not in (rules.NULL, rules.NOBITS) else set()
+    return edges
 
 
-def answer(reader, path):
-    run = subprocess.run([reader, "read", path], stdout=subprocess.PIPE)
-    return run.returncode, run.stdout
+def places_of(whole):
+    """The place and the width of each field of the headers, of the symbols and of the dynamic entries."""
+    elf = rules.Elf(whole)
+    symbols, dynamic = elf.section(elf.first(rules.DYNSYM)), elf.section(elf.first(rules.DYNAMIC))
+    table, count = section_table(whole)
+    yield from fields_of(0, FILE_HEADER)
+    yield from fields_of(table, SECTION_HEADER, count)
+    yield from fields_of(symbols[4], SYMBOL, min(symbols[5] // 24, MOST_SYMBOLS))
+    yield from fields_of(dynamic[4], ENTRY, dynamic[5] // 16)
 
 
-def copy_of(source):
-    """The bytes of a file, and the path of a copy that is this process's own."""
+def read(source):
     with open(source, "rb") as file:
-        whole = file.read()
-    path = "%s.%d.so" % (source, os.getpid())
-    with open(path, "wb") as file:
-        file.write(whole)
-    return whole, path
+        return file.read()
 
 
-def cuts(reader, source, lengths):
-    """The lengths, falling, at which a file's answer is not the one of the rules."""
-    whole, path = copy_of(source)
-    wrong = []
-    for length in sorted(lengths, reverse=True):
-        os.truncate(path, length)
-        said, wanted = answer(reader, path), rules.said_of(whole[:length], path.encode())
-        if said != wanted:
-            wrong.append("%s cut at %d: %r, wanted %r" % (source, length, said, wanted))
-    return wrong
-
-
-def fields(reader, source, places):
-    """The fields at whose greatest value a file's answer is not the one of the rules."""
-    whole, path = copy_of(source)
-    wrong = []
-    for place, width in places:
-        data = whole[:place] + b"\xff" * width + whole[place + width :]
-        with open(path, "wb") as file:
-            file.write(data)
-        said, wanted = answer(reader, path), rules.said_of(data, path.encode())
-        if said != wanted:
-            wrong.append("%s with the field at %d: %r, wanted %r" % (source, place, said, wanted))
-    return wrong
-
-
-def parts_of(tried, source, cases):
-    """The work on a file's cases, for one process after another."""
-    cases = list(cases)
-    return [(tried, source, cases[at : at + STEP]) for at in range(0, len(cases), STEP)]
-
-
-def work_on(small, large, stride):
-    with open(small, "rb") as file:
-        moved = fronted(file.read())
-    front = small + ".front"
+def work_on(source, whole, stride, step):
+    """The work on a file: its cuts, as it is and with its section headers at the front, at every length or at a small
+    part of them by strides; and every so many of its fields."""
+    front = source + ".front"
+    data, moved = read(source), fronted(read(source))
     with open(front, "wb") as file:
         file.write(moved)
-    size = os.path.getsize(large)
-    places = random.Random(1).sample(range(EDGE, size), min(1000, size - EDGE))
-    work = parts_of(cuts, small, range(os.path.getsize(small) + 1))
-    work += parts_of(cuts, front, range(len(moved) + 1))
-    work += parts_of(cuts, large, range(0, EDGE, stride)) + parts_of(cuts, large, places)
-    for source in small, front, large:
-        with open(source, "rb") as file:
-            work += parts_of(fields, source, fields_of(file.read()))
-    return work
+    work = parts_of(cuts, source, lengths_of(len(data), edges_of(data), stride, whole))
+    work += parts_of(cuts, front, lengths_of(len(moved), edges_of(moved), stride // 2, whole))
+    return work + parts_of(fields, source, list(places_of(data))[:: 1 if whole else step])
 
 
 def main():
     reader, small, large = sys.argv[1:4]
-    wrong, count = [], 0
-    with concurrent.futures.ProcessPoolExecutor() as pool:
-        work = work_on(small, large, 1 if "--all" in sys.argv else 16)
-        total = sum(len(cases) for _, _, cases in work)
-        running = {pool.submit(tried, reader, source, cases): len(cases) for tried, source, cases in work}
-        for done in concurrent.futures.as_completed(running):
-            wrong += done.result()
-            if count // 5000 < (count + running[done]) // 5000:
-                print("%d of %d variants tried" % (count + running[done], total), flush=True)
-            count += running[done]
-    for line in wrong[:20]:
-        print(line)
-    print("%d lengths and fields, %d wrong" % (count, len(wrong)))
-    sys.exit(1 if wrong else 0)
+    whole = "--all" in sys.argv
+    work = work_on(small, whole, 32, 1) + work_on(large, whole, 256, 32)
+    sys.exit(1 if count_wrong([reader, "read"], rules.said_of, work) else 0)
 
 
 if __name__ == "__main__":
