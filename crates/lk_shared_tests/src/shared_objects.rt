@@ -36,6 +36,9 @@ pub const SHARED: [u8; 592] = [
 /// The place of its class.
 const CLASS: usize = 4;
 
+/// The place of the type of the file.
+const FILE_TYPE: usize = 16;
+
 /// The place of the name of its LOCAL symbol.
 const LOCAL_NAME: usize = 232;
 
@@ -149,6 +152,7 @@ pub fn failure(alloc: Global, bytes: &[u8]) -> Option<ReadFailure> {
 fn each_part_is_looked_at(rt: HostRuntime) {
     let cases = [
         (CLASS, 1, InputFault::WrongClass),
+        (FILE_TYPE, 1, InputFault::WrongType),
         (SYMBOLS_TYPE, 1, InputFault::NoDynamic),
         (DYNAMIC_SIZE, 47, InputFault::BadTable(3)),
         (LOCAL_NAME, 31, InputFault::BadName(1)),

@@ -176,9 +176,7 @@ impl<'a> Offered<'a> {
             return Ok(());
         }
         let found = names.name(symbol.st_name)?;
-        let Some(name) = found else {
-            return Err(NoMemory);
-        };
+        let Some(name) = found else { unreachable!() };
         keep(&mut self.kept, shared_global(k, symbol, name))
     }
 
