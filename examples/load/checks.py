@@ -140,11 +140,8 @@ def symbol_checks(image):
     def said(count):
         return text_of(image.data, image.headers, needs, count, relocations)
 
-    def says(tag, *numbers):
-        return [image.with_bytes(image.says(tag, number)) for number in numbers]
-
-    yield ("the hash table begins in a segment", BAD_DYNAMIC, says(DT_HASH, end - 7, end, NOWHERE, TOP - 8, TOP - 1),
-           *says(DT_HASH, end - 8), said(0))
+    yield ("the hash table begins in a segment", BAD_DYNAMIC, image.saying(DT_HASH, end - 7, end, NOWHERE, TOP - 8, TOP - 1),
+           *image.saying(DT_HASH, end - 8), said(0))
     head = image.table(DT_HASH)
     buckets, chains = struct.unpack_from("<II", image.data, head)
     words = (image.end_above(DT_HASH) - image.value(DT_HASH)) // 4 - 2
@@ -154,11 +151,11 @@ def symbol_checks(image):
     yield ("the chains end in a segment", BAD_DYNAMIC,
            [image.with_bytes((head + 4, "<I", number)) for number in (words - buckets + 1, 2**31, 2**32 - 1)],
            image.with_bytes((head + 4, "<I", chains - 1)), said(symbols - 1))
-    yield ("the symbols end in a segment", BAD_DYNAMIC, says(DT_SYMTAB, end - 24 * symbols + 1, end, NOWHERE, TOP - 24, TOP - 1),
-           *says(DT_SYMTAB, end - 24 * symbols), said(symbols))
-    yield ("without a hash table there is no symbol", BAD_DYNAMIC, says(DT_SYMTAB, NOWHERE),
+    yield ("the symbols end in a segment", BAD_DYNAMIC, image.saying(DT_SYMTAB, end - 24 * symbols + 1, end, NOWHERE, TOP - 24, TOP - 1),
+           *image.saying(DT_SYMTAB, end - 24 * symbols), said(symbols))
+    yield ("without a hash table there is no symbol", BAD_DYNAMIC, image.saying(DT_SYMTAB, NOWHERE),
            image.with_bytes(image.retags(DT_HASH, DT_DEBUG), image.says(DT_SYMTAB, NOWHERE)), said(0))
-    yield ("a tag has 64 bits", BAD_DYNAMIC, says(DT_HASH, NOWHERE),
+    yield ("a tag has 64 bits", BAD_DYNAMIC, image.saying(DT_HASH, NOWHERE),
            image.with_bytes(image.retags(DT_HASH, DT_HASH + 2**32), image.says(DT_HASH, NOWHERE)), said(0))
 
 
@@ -172,22 +169,20 @@ def text_checks(image):
     def said(first):
         return text_of(image.data, image.headers, [first] + needs[1:], symbols, relocations)
 
-    def says(tag, *numbers):
-        return [image.with_bytes(image.says(tag, number)) for number in numbers]
-
     room = image.end_above(DT_STRTAB) - image.value(DT_STRTAB)
-    yield "the strings end in a segment", BAD_DYNAMIC, says(DT_STRSZ, room + 1, TOP - 1), *says(DT_STRSZ, room), said(needs[0])
+    yield "the strings end in a segment", BAD_DYNAMIC, image.saying(DT_STRSZ, room + 1, TOP - 1), *image.saying(DT_STRSZ, room), said(needs[0])
     no_texts = [(image.section + 16 * k, "<q", DT_DEBUG) for k, (tag, _) in enumerate(image.entries) if tag in (DT_NEEDED, DT_HASH)]
     no_texts.append(image.says(DT_STRTAB, NOWHERE))
     yield ("the strings begin in a segment", BAD_DYNAMIC, [image.with_bytes(*no_texts, image.says(DT_STRSZ, 1))],
            image.with_bytes(*no_texts, image.says(DT_STRSZ, 0)), text_of(image.data, image.headers, [], 0, relocations))
-    empty = [image.says(DT_NEEDED, 0), image.retags(DT_HASH, DT_DEBUG)]
+    empty = [(image.section + 16 * k + 8, "<Q", 0) for k, (tag, _) in enumerate(image.entries) if tag == DT_NEEDED]
+    empty.append(image.retags(DT_HASH, DT_DEBUG))
     yield ("without a size there are no strings", BAD_DYNAMIC, [image.with_bytes(*empty, image.retags(DT_STRSZ, DT_DEBUG))],
-           image.with_bytes(*empty, image.says(DT_STRSZ, 1)), text_of(image.data, image.headers, [b""], 0, relocations))
-    yield ("a needed name begins in the strings", BAD_DYNAMIC, says(DT_NEEDED, size, 2**32, TOP // 2, TOP - 1),
-           *says(DT_NEEDED, size - 1), said(b""))
+           image.with_bytes(*empty, image.says(DT_STRSZ, 1)), text_of(image.data, image.headers, [b""] * len(needs), 0, relocations))
+    yield ("a needed name begins in the strings", BAD_DYNAMIC, image.saying(DT_NEEDED, size, 2**32, TOP // 2, TOP - 1),
+           *image.saying(DT_NEEDED, size - 1), said(b""))
     yield ("a needed name ends in the strings", BAD_DYNAMIC,
-           [image.with_bytes(image.says(DT_NEEDED, last), image.says(DT_STRSZ, size - 1))], *says(DT_NEEDED, last), said(strings[last:-1]))
+           [image.with_bytes(image.says(DT_NEEDED, last), image.says(DT_STRSZ, size - 1))], *image.saying(DT_NEEDED, last), said(strings[last:-1]))
     table = image.table(DT_SYMTAB)
     for k in (0, 1, symbols - 1):
         yield ("the name of symbol %d begins in the strings" % k, BAD_DYNAMIC,
@@ -203,28 +198,28 @@ def relocation_checks(image):
     needs, symbols, _ = named(image.data, image.headers)
     sizes = {DT_RELASZ: image.value(DT_RELASZ), DT_PLTRELSZ: image.value(DT_PLTRELSZ)}
 
-    def said(**changes):
-        count = sum(size // 24 for size in {**sizes, **changes.get("sizes", {})}.values())
+    def said(others):
+        count = sum(size // 24 for size in {**sizes, **others}.values())
         return text_of(image.data, image.headers, needs, symbols, count)
 
     for tag, size_tag in (DT_RELA, DT_RELASZ), (DT_JMPREL, DT_PLTRELSZ):
         room = image.end_above(tag) - image.value(tag)
         yield ("relocations of tag %d end in a segment" % tag, BAD_DYNAMIC,
-               [image.with_bytes(image.says(size_tag, size)) for size in (room + 1, TOP - image.value(tag), TOP - 1)],
-               image.with_bytes(image.says(size_tag, room)), said(sizes={size_tag: room}))
+               image.saying(size_tag, room + 1, TOP - image.value(tag), TOP - 1),
+               image.with_bytes(image.says(size_tag, room)), said({size_tag: room}))
         yield ("relocations of tag %d begin in a segment" % tag, BAD_DYNAMIC,
                [image.with_bytes(image.says(tag, NOWHERE), image.says(size_tag, 1)), image.with_bytes(image.says(tag, TOP - 1))],
-               image.with_bytes(image.says(tag, NOWHERE), image.says(size_tag, 0)), said(sizes={size_tag: 0}))
-        yield ("without a size there are no relocations of tag %d" % tag, BAD_DYNAMIC, [image.with_bytes(image.says(tag, NOWHERE))],
-               image.with_bytes(image.says(tag, NOWHERE), image.retags(size_tag, DT_DEBUG)), said(sizes={size_tag: 0}))
-        yield ("a size without relocations of tag %d" % tag, BAD_DYNAMIC, [image.with_bytes(image.says(size_tag, TOP - 1))],
-               image.with_bytes(image.says(size_tag, TOP - 1), image.retags(tag, DT_DEBUG)), said(sizes={size_tag: 0}))
+               image.with_bytes(image.says(tag, NOWHERE), image.says(size_tag, 0)), said({size_tag: 0}))
+        yield ("without a size there are no relocations of tag %d" % tag, BAD_DYNAMIC, image.saying(tag, NOWHERE),
+               image.with_bytes(image.says(tag, NOWHERE), image.retags(size_tag, DT_DEBUG)), said({size_tag: 0}))
+        yield ("a size without relocations of tag %d" % tag, BAD_DYNAMIC, image.saying(size_tag, TOP - 1),
+               image.with_bytes(image.says(size_tag, TOP - 1), image.retags(tag, DT_DEBUG)), said({size_tag: 0}))
     bad = image.says(DT_STRTAB, NOWHERE)
     first = image.entries[0][0]
     yield ("an entry after the first NULL does not count", BAD_DYNAMIC, [image.with_bytes(bad), image.with_bytes(bad, image.retags(first, 2**32))],
            image.with_bytes(bad, image.retags(first, DT_NULL)), text_of(image.data, image.headers, [], 0, 0))
     yield ("the first entry with a tag counts", BAD_DYNAMIC, [image.with_bytes(image.retags(DT_SYMENT, DT_RELASZ), image.says(DT_SYMENT, TOP - 1))],
-           image.with_bytes(image.retags(DT_RELAENT, DT_RELASZ), image.says(DT_RELAENT, TOP - 1)), said())
+           image.with_bytes(image.retags(DT_RELAENT, DT_RELASZ), image.says(DT_RELAENT, TOP - 1)), said({}))
 
 
 HEADER_CHECKS = [file_checks, table_checks, range_checks, overlap_checks]

@@ -70,6 +70,10 @@ class DynamicImage(Image):
         """The change that makes the first entry with a tag say a number."""
         return self.entry(tag) + 8, "<Q", number
 
+    def saying(self, tag, *numbers):
+        """The executable with each of these numbers in the first entry with a tag."""
+        return [self.with_bytes(self.says(tag, number)) for number in numbers]
+
     def retags(self, tag, other):
         """The change that gives the first entry with a tag another one."""
         return self.entry(tag), "<q", other
