@@ -1,6 +1,6 @@
 """Reads every shared object of the system's library folders, and compares what is said with readelf.
 
-    system.py lk_probe [FOLDER ..]
+    system.py lk_probe [--all] [FOLDER ..]     without --all at most 500 of them, evenly over all
 
 None may be refused, but for files that are longer than an input of a link may be. Of each, the soname and the needs are
 those that `readelf -d` shows, and the numbers of symbols by kind are those that `readelf --dyn-syms` shows of the
@@ -22,6 +22,7 @@ WORD = rb"(<OS specific>: \d+|\S+)"  # readelf has no name for type or binding 1
 SYMBOL = re.compile(rb"^ *\d+: [0-9a-f]+ +\S+ +" + WORD + b" +" + WORD + rb" +(\S+) +(?:\[[^]]*\] +)?(\S+)(?: ([^\n]*))?$", re.M)
 UNKNOWN = b"<OS specific>: 10"
 ENTRY = re.compile(rb"^ 0x[0-9a-f]+ \((NEEDED|SONAME)\) +[^\n[]*\[([^\n]*)\]$", re.M)
+MOST_READ = 500  # without --all
 KINDS = {b"FUNC": "functions", b"IFUNC": "functions", UNKNOWN: "functions", b"OBJECT": "objects", b"TLS": "thread-local"}
 
 
@@ -78,7 +79,10 @@ def compared(reader, path):
 
 
 def main():
-    reader, paths = sys.argv[1], shared_objects(sys.argv[2:] or FOLDERS)
+    reader, words = sys.argv[1], sys.argv[2:]
+    paths = shared_objects([word for word in words if word != "--all"] or FOLDERS)
+    if "--all" not in words:
+        paths = paths[:: -(-len(paths) // MOST_READ) or 1]
     wrong, long = [], 0
     with concurrent.futures.ThreadPoolExecutor(os.cpu_count()) as pool:
         for number, (line, is_long) in enumerate(pool.map(lambda path: compared(reader, path), paths), 1):
