@@ -5,3 +5,6 @@ pub mod RelocationsPut
 pub mod NamesLookedUp
 pub mod CallsAt
 pub mod StartFilled
+pub mod GotFilled
+pub mod NamesDefined
+pub mod EntriesPut

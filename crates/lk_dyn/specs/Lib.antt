@@ -1,7 +1,10 @@
 pub mod LowBits
 pub mod HashWords
-pub mod DynsymNumbers
+pub mod NamePlaces
+pub mod DefinedNames
+pub mod DynamicEntries
 pub mod JumpSlots
 pub mod HashLookUps
 pub mod CallLaws
 pub mod StartRelocations
+pub mod LocalSlots

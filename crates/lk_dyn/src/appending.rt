@@ -3,9 +3,9 @@
 ghost use Rattle.std.specs.Prelude.{◌≡◌, ◌++◌, OnOk};
 ghost use Rattle.std.specs.List.{flat_map};
 ghost use Rattle.lk_elf.specs.Fields.{bytes_of};
-ghost use Rattle.lk_elf.specs.Records.{rela_bytes};
+ghost use Rattle.lk_elf.specs.Records.{dyn_bytes, rela_bytes, sym_bytes};
 
-use lk_elf::Rela;
+use lk_elf::{Dyn, Rela, Sym};
 use lk_report::NoMemory;
 
 /// Puts bytes at the end.
@@ -64,5 +64,26 @@ pub(crate) fn put_rela(out: &mut Vec<u8>, rela: &Rela) -> Result<(), NoMemory>
 {
     let mut bytes = [0u8; 24];
     rela.write_at(&mut bytes, 0);
+    put_bytes(out, &bytes)
+}
+
+/// Puts a symbol at the end (gABI "Symbol Table").
+///
+/// # Errors
+/// Out of memory.
+pub fn put_symbol(out: &mut Vec<u8>, symbol: &Sym) -> Result<(), NoMemory>
+    ensures { OnOk result (out.new.items ≡ out.old.items ++ sym_bytes symbol.now) }
+{
+    let mut bytes = [0u8; 24];
+    symbol.write_at(&mut bytes, 0);
+    put_bytes(out, &bytes)
+}
+
+/// Puts an entry of the dynamic section at the end (gABI "Dynamic Section").
+pub(crate) fn put_dyn(out: &mut Vec<u8>, entry: &Dyn) -> Result<(), NoMemory>
+    ensures { OnOk result (out.new.items ≡ out.old.items ++ dyn_bytes entry.now) }
+{
+    let mut bytes = [0u8; 16];
+    entry.write_at(&mut bytes, 0);
     put_bytes(out, &bytes)
 }

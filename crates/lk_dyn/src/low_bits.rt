@@ -8,7 +8,7 @@ ghost use Rattle.lk_dyn.specs.LowBits.{low_64};
 const FIELD_END: u128 = 0x1_0000_0000_0000_0000;
 
 /// What a field of eight bytes holds of a number.
-pub(crate) fn low_64(n: u128) -> u64
+pub fn low_64(n: u128) -> u64
     ensures { result ≡ low_64 n }
 {
     (n % FIELD_END) as u64

@@ -11,8 +11,8 @@ ghost use Rattle.lk_dyn.specs.JumpSlots.{jump_entry_bytes};
 
 use crate::appending::put_rela;
 use crate::calls::jump_slot;
-use crate::dynsym_numbers::DynsymNumbers;
 use crate::low_bits::low_64;
+use crate::name_places::NamePlaces;
 use crate::sections::section_start;
 use lk_elf::Rela;
 use lk_model::layouts::{Class, Placement};
@@ -29,7 +29,7 @@ const R_X86_64_JUMP_SLOT: u32 = 7;
 /// The address is by its low bits.
 pub(crate) fn put_relocation(
     out: &mut Vec<u8>,
-    numbers: &DynsymNumbers<'_>,
+    numbers: &NamePlaces<'_>,
     address: u64,
     code: u32,
     name: u32,
@@ -48,7 +48,7 @@ pub(crate) fn put_relocation(
 /// Puts the relocations of the slots of PLT entries at the end, by the address of the GOT.
 fn put_jumps(
     out: &mut Vec<u8>,
-    numbers: &DynsymNumbers<'_>,
+    numbers: &NamePlaces<'_>,
     got: u64,
     plt: &[u32],
 ) -> Result<(), NoMemory>
@@ -73,7 +73,7 @@ fn put_jumps(
 /// Out of memory.
 pub fn rela_plt_table(
     alloc: Global,
-    numbers: &DynsymNumbers<'_>,
+    numbers: &NamePlaces<'_>,
     place: &Placement,
 ) -> Result<Bytes, NoMemory>
     ensures { (r : Resolved) → dynamic_names r ≡ numbers.now → IfOk result (λ table. table ≡ rela_plt_bytes r place.now) }

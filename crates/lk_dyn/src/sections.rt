@@ -17,14 +17,14 @@ fn is_name(name: &[u8], other: &[u8]) -> bool
 }
 
 /// Whether a key is that of a name and a class.
-fn is_key(key: &SectionKey, name: &[u8], class: Class) -> bool
+pub fn is_key(key: &SectionKey, name: &[u8], class: Class) -> bool
     ensures { result ≡ same_key key.now (named name.now class) }
 {
     same_class(key.class, class) && is_name(key.name.as_slice(), name)
 }
 
 /// The row of the section with a name and a class.
-pub(crate) fn row_of<'a>(place: &'a Placement, name: &[u8], class: Class) -> Option<&'a SectionRow>
+pub fn row_of<'a>(place: &'a Placement, name: &[u8], class: Class) -> Option<&'a SectionRow>
     ensures { option_copied result ≡ row_of place.now (named name.now class) }
 {
     place

@@ -10,8 +10,8 @@ ghost use Rattle.lk_dyn_sizes.specs.Fills.{as_fills};
 ghost use Rattle.lk_dyn.specs.StartRelocations.{copy_entry_at, copy_of, or_zero, slot_entry_bytes};
 
 use crate::copy_addresses::{CopyAddresses, address_of, copy_addresses};
-use crate::dynsym_numbers::DynsymNumbers;
 use crate::low_bits::low_64;
+use crate::name_places::NamePlaces;
 use crate::relocations::put_relocation;
 use crate::sections::section_start;
 use lk_dyn_sizes::SlotFill;
@@ -25,7 +25,7 @@ const R_X86_64_COPY: u32 = 5;
 /// Puts the relocation that fills a GOT slot at the end, by the address of `.got`.
 fn put_slot(
     out: &mut Vec<u8>,
-    numbers: &DynsymNumbers<'_>,
+    numbers: &NamePlaces<'_>,
     got: u64,
     fill: SlotFill,
 ) -> Result<(), NoMemory>
@@ -38,7 +38,7 @@ fn put_slot(
 /// Puts the relocations that fill GOT slots at the end, by the address of `.got`.
 fn put_slots(
     out: &mut Vec<u8>,
-    numbers: &DynsymNumbers<'_>,
+    numbers: &NamePlaces<'_>,
     got: u64,
     fills: &[SlotFill],
 ) -> Result<(), NoMemory>
@@ -53,7 +53,7 @@ fn put_slots(
 /// Puts the relocation that fills the copy of a name at the end.
 fn put_copy(
     out: &mut Vec<u8>,
-    numbers: &DynsymNumbers<'_>,
+    numbers: &NamePlaces<'_>,
     addresses: &CopyAddresses,
     name: u32,
 ) -> Result<(), NoMemory>
@@ -66,7 +66,7 @@ fn put_copy(
 /// Puts the relocations that fill copies at the end.
 fn put_copies(
     out: &mut Vec<u8>,
-    numbers: &DynsymNumbers<'_>,
+    numbers: &NamePlaces<'_>,
     addresses: &CopyAddresses,
     names: &[u32],
 ) -> Result<(), NoMemory>
@@ -86,7 +86,7 @@ fn put_copies(
 /// Out of memory.
 pub fn rela_dyn_table(
     alloc: Global,
-    numbers: &DynsymNumbers<'_>,
+    numbers: &NamePlaces<'_>,
     fills: &[SlotFill],
     copies: &[u32],
     place: &Placement,

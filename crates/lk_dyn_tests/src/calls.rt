@@ -1,6 +1,6 @@
 //! The tables of calls of a program that calls `puts` and then `exit`, byte for byte.
 
-use lk_dyn::{DynsymNumbers, got_plt_table, plt_table, rela_plt_table};
+use lk_dyn::{NamePlaces, got_plt_table, plt_table, rela_plt_table};
 use lk_model::layouts::{
     Class, GotSlotList, PieceRowList, Placement, SectionKey, SectionRow, SectionRowList, SlotTable,
 };
@@ -100,7 +100,7 @@ fn the_slots_of_calls(rt: HostRuntime) -> Result<(), NoMemory> {
 fn the_relocations_of_calls(rt: HostRuntime) -> Result<(), NoMemory> {
     let place = placed(rt.alloc())?;
     let names = [3, 5, 7];
-    let numbers = DynsymNumbers::new(rt.alloc(), names.as_slice())?;
+    let numbers = NamePlaces::new(rt.alloc(), names.as_slice())?;
     let table = rela_plt_table(rt.alloc(), &numbers, &place)?;
     let wanted: [u8; 48] = [
         0x98, 0x31, 0x40, 0, 0, 0, 0, 0, 7, 0, 0, 0, 3, 0, 0, 0, 0, 0, 0, 0, 0, 0, 0, 0, 0xa0,

@@ -1,8 +1,9 @@
-//! The numbers of the dynamic symbols by their names, looked up by hash (gABI "Symbol Table").
+//! The places of names in a list, looked up by hash: the numbers of dynamic symbols (gABI "Symbol Table") and of the
+//! entries of the procedure linkage table (psABI x86-64 "Procedure Linkage Table").
 
-ghost use Rattle.std.specs.Prelude.{◌≡◌, ◌==◌, ◌≤◌, ◌^◌, ℕ, cond, Some, IfOk, OnOk, length};
+ghost use Rattle.std.specs.Prelude.{◌≡◌, ◌==◌, ◌≤◌, ◌^◌, ℕ, cond, Some, IfOk, OnOk, length, position};
 ghost use Rattle.lk_model.specs.DynamicNames.{dynsym_number};
-ghost use Rattle.lk_dyn.specs.DynsymNumbers.{FindsPlaces, number_at, place_of};
+ghost use Rattle.lk_dyn.specs.NamePlaces.{FindsPlaces, number_at, place_of};
 
 use indexmap::IndexMap;
 use lk_report::NoMemory;
@@ -12,16 +13,16 @@ use std::marker::Model;
 /// The places of names in a list.
 type Places = IndexMap<u32, usize>;
 
-/// The dynamic names of a link, by their numbers. Contracts see them as the list of these.
+/// Names in a list, by their numbers in the link. Contracts see them as the list of these.
 #[derive(Drop)]
-pub struct DynsymNumbers<'a> {
+pub struct NamePlaces<'a> {
     names: &'a [u32],
     places: Places,
 }
 
-impl<'a> Model for DynsymNumbers<'a> {
+impl<'a> Model for NamePlaces<'a> {
     ghost use Rattle.std.specs.Prelude.{ℕ, List};
-    ghost use Rattle.lk_dyn.specs.DynsymNumbers.{FindsPlaces};
+    ghost use Rattle.lk_dyn.specs.NamePlaces.{FindsPlaces};
 
     ghost Value = { List ℕ };
 
@@ -69,7 +70,7 @@ fn number_at(count: usize, at: Option<usize>) -> u128
     }
 }
 
-impl<'a> DynsymNumbers<'a> {
+impl<'a> NamePlaces<'a> {
     /// The names with these numbers, in their order.
     ///
     /// # Errors
@@ -78,10 +79,18 @@ impl<'a> DynsymNumbers<'a> {
         ensures { IfOk result (λ numbers. numbers ≡ names.now) }
     {
         let places = first_places(alloc, names)?;
-        Ok(DynsymNumbers { names, places })
+        Ok(NamePlaces { names, places })
     }
 
-    /// The number of the symbol of a name, the null symbol counted; the one behind all for a name without one.
+    /// The first place of a name, from 0; none for a name that is not in the list.
+    pub fn place(&self, name: u32) -> Option<usize>
+        ensures { result ≡ position (λ n. n == name) self.now }
+    {
+        place_of(&self.places, name)
+    }
+
+    /// The number of the dynamic symbol of a name, the null symbol counted, where these are the dynamic names; the one
+    /// behind all for a name without one.
     pub(crate) fn number(&self, name: u32) -> u128
         ensures number { result ≡ dynsym_number self.now name }
         ensures few { result ≤ 2 ^ 64 }

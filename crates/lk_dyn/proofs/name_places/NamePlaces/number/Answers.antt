@@ -1,9 +1,9 @@
 use Rattle.std.proofs.Common.{◌∙◌, ap, length}
 use Rattle.std.specs.Prelude.{ℕ, List}
 use Rattle.lk_model.specs.DynamicNames.{dynsym_number}
-use Rattle.lk_dyn.specs.DynsymNumbers.{number_at}
+use Rattle.lk_dyn.specs.NamePlaces.{number_at}
 use Rattle.lk_dyn.proofs.SymbolsNumbered.{number_is}
-use Rattle.lk_dyn.proofs.dynsym_numbers.DynsymNumbers.number.Goals as goal
+use Rattle.lk_dyn.proofs.name_places.NamePlaces.number.Goals as goal
 
 pub returns-clause-number : goal.returns-clause-number
 returns-clause-number c =
