@@ -1,0 +1,5 @@
+pub mod PlacesFound
+pub mod EntriesLow
+pub mod EntriesGiven
+pub mod TablesPut
+pub mod WinnersGiven

@@ -1,0 +1,5 @@
+pub mod NamedRows
+pub mod SymbolPlaces
+pub mod SymbolEntries
+pub mod SymbolTables
+pub mod WinnerNames
