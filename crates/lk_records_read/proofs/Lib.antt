@@ -1,0 +1,4 @@
+pub mod TextsFound
+pub mod RecordsInRow
+pub mod RecordNumbers
+pub mod NameRows

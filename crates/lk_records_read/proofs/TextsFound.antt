@@ -1,0 +1,31 @@
+-- A text at an offset is up to the first zero from there on.
+use Rattle.std.specs.Prelude.{◌≡◌, ℕ, ◌+◌, ◌-◌, ◌<◌, ◌≤◌, ◌==◌, Bool, true, false, List, take, drop, length, slice_range, if◌then◌else◌, Option, None, Some}
+use Rattle.std.specs.List.{position}
+use Rattle.std.proofs.Common.{refl, sym, ◌∙◌, ap, arith}
+use Rattle.std.proofs.lemmas.Bool.{lt-ltb, le-ltb}
+use Rattle.std.proofs.lemmas.List.{length-drop}
+use Rattle.std.proofs.lemmas.List.Quantifiers.{position-Some}
+use Rattle.lk_model.specs.Texts.{begins_text, text_at}
+
+-- its zero lies in the section
+pub text_lies : (bytes : List ℕ) (o k : ℕ) → Some k ≡ position (λ b. b == 0) (drop o bytes) → o + k < length bytes
+text_lies bytes o k e =
+    let there : k < length (drop o bytes) = (position-Some (λ b. b == 0) (drop o bytes) k 0 (sym e)).0 in
+    let same = length-drop o bytes in
+    omega (arith, there, same)
+
+pub text_past : (bytes : List ℕ) (o : ℕ) → length bytes ≤ o → text_at bytes o ≡ None
+text_past bytes o l = let past = le-ltb o (length bytes) l in rw past refl
+
+pub text_inside : (bytes : List ℕ) (o : ℕ) → o < length bytes → begins_text bytes o ≡ false → text_at bytes o ≡ None
+text_inside bytes o l b = let inside = lt-ltb o (length bytes) l in rw (inside, b) refl
+
+pub text_unended : (bytes : List ℕ) (o : ℕ) → o < length bytes → begins_text bytes o ≡ true → None ≡ position (λ b. b == 0) (drop o bytes) → text_at bytes o ≡ None
+text_unended bytes o l b e = let inside = lt-ltb o (length bytes) l in let none = sym e in rw (inside, b, none) refl
+
+pub text_found : (bytes : List ℕ) (o k : ℕ) → o < length bytes → begins_text bytes o ≡ true → Some k ≡ position (λ b. b == 0) (drop o bytes) → text_at bytes o ≡ Some (slice_range bytes o (o + k))
+text_found bytes o k l b e =
+    let inside = lt-ltb o (length bytes) l in
+    let there = sym e in
+    let count : k ≡ o + k - o = omega arith in
+    rw (inside, b, there) (ap (λ n. Some (take n (drop o bytes))) count)
