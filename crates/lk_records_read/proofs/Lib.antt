@@ -2,3 +2,4 @@ pub mod TextsFound
 pub mod RecordsInRow
 pub mod RecordNumbers
 pub mod NameRows
+pub mod TextsNoted

@@ -1,2 +1,3 @@
 pub mod ReadAnswers
 pub mod NameRecords
+pub mod DistinctTexts

@@ -32,6 +32,20 @@ module _ {X : Type 0} where
   RecordsGive expected (Err (fault.Version version)) = expected ≡ Err (fault.Version version)
   RecordsGive expected (Err fault.NoMemory) = Unit {0}
 
+module _ {X : Type 0} where
+  -- whether a whole section is read, or the number of bytes left at its bad place
+  abbrev pub IsPassed : Result X ℕ → Result (Unit {0}) Refusal → Type 0
+  IsPassed expected (Ok u) = (x : X) × (expected ≡ Ok x)
+  IsPassed expected (Err (refusal.Bad left)) = expected ≡ Err left
+  IsPassed expected (Err refusal.NoMemory) = Unit {0}
+
+  -- whether it is read, or the bad place by section and offset
+  abbrev pub RecordsPass : Result X RecordFault → Result (Unit {0}) RecordFault → Type 0
+  RecordsPass expected (Ok u) = (x : X) × (expected ≡ Ok x)
+  RecordsPass expected (Err (fault.Bad section offset)) = expected ≡ Err (fault.Bad section offset)
+  RecordsPass expected (Err (fault.Version version)) = expected ≡ Err (fault.Version version)
+  RecordsPass expected (Err fault.NoMemory) = Unit {0}
+
 -- why a section is not read, by its number
 abbrev pub fault_in : ℕ → List ℕ → Refusal → RecordFault
 fault_in section bytes (refusal.Bad left) = fault.Bad section (length bytes - left)

@@ -1,6 +1,8 @@
 //! The records of a section one after another.
 
-ghost use Rattle.std.specs.Prelude.{◌≡◌, ◌<◌, ◌≤◌, [], drop, length, IfErr, IfOk, MatchResult};
+ghost use Rattle.std.specs.Prelude.{◌≡◌, ◌+◌, ◌<◌, ◌≤◌, ◌==◌, [], drop, length, position, take, IfErr, IfOk, MatchResult};
+ghost use Rattle.std.specs.List.{before_first, position_or_len};
+ghost use Rattle.lk_model.specs.TextsReading.{is_end};
 ghost use Rattle.lk_records_read.specs.declared.refusals.Refusal.TheVariants as refusal;
 
 use crate::refusals::Refusal;
@@ -11,6 +13,35 @@ pub(crate) fn rest_from(bytes: &[u8], at: usize) -> &[u8]
     ensures { result.now ≡ drop at bytes.now }
 {
     if at < bytes.len() { &bytes[at..] } else { &[] }
+}
+
+/// At most the first `size` bytes.
+fn front_of(bytes: &[u8], size: usize) -> &[u8]
+    ensures { result.now ≡ take size bytes.now }
+{
+    if size < bytes.len() {
+        &bytes[..size]
+    } else {
+        bytes
+    }
+}
+
+/// The place of the first zero.
+pub(crate) fn zero_in(bytes: &[u8]) -> Option<usize>
+    ensures { result ≡ position (λ b. b == 0) bytes.now }
+{
+    bytes.iter().position(|b| *b == 0)
+}
+
+/// How many bytes are before the first zero, or all where there is none.
+#[tactic(auto, using(crate::proofs::TextsFound::size_found, crate::proofs::TextsFound::size_whole))]
+fn text_size(bytes: &[u8]) -> usize
+    ensures { result ≡ position_or_len is_end bytes.now }
+{
+    match zero_in(bytes) {
+        Some(size) => size,
+        None => bytes.len(),
+    }
 }
 
 /// A place in a section of records. Contracts see it as the bytes from it on.
@@ -49,6 +80,26 @@ impl<'a> Cursor<'a> {
         }
         self.rest = rest_from(bytes, width);
         Ok(bytes)
+    }
+
+    /// How many bytes are left.
+    pub(crate) fn left(&self) -> usize
+        ensures { result ≡ length self.now }
+    {
+        self.rest.len()
+    }
+
+    /// The next text, without its closing zero, which need not be there; the cursor goes on behind it (gABI "String
+    /// Table").
+    #[tactic(auto, using(crate::proofs::TextsFound::text_passed))]
+    pub(crate) fn text(&mut self) -> &'a [u8]
+        ensures text { result.now ≡ before_first is_end self.old }
+        ensures passed { self.new ≡ drop (length (before_first is_end self.old) + 1) self.old }
+    {
+        let bytes = self.rest;
+        let text = front_of(bytes, text_size(bytes));
+        self.rest = rest_from(rest_from(bytes, text.len()), 1);
+        text
     }
 
     /// All bytes of the section are read.

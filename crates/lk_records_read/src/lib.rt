@@ -3,10 +3,13 @@
 #![tactic(auto)]
 
 mod cursors;
+mod distinct_texts;
 mod fields;
+mod lists;
 mod names;
 mod refusals;
 mod section_faults;
 mod texts;
 
+pub use distinct_texts::check_texts;
 pub use names::{NameCounts, read_names};

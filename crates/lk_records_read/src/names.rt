@@ -10,11 +10,12 @@ ghost use Rattle.lk_records_read.specs.ReadAnswers.{ReadGives, ReadGivesWhole, R
 
 use crate::cursors::Cursor;
 use crate::fields::u32_at;
+use crate::lists::with_room;
 use crate::refusals::Refusal;
 use crate::section_faults::fault_in;
 use crate::texts::text_at;
 use lk_model::records::{NameRow, NameRowList, RecordFault};
-use lk_report::{Bytes, List, Name, NoMemory};
+use lk_report::{Bytes, Name, NoMemory};
 use std::alloc::Global;
 
 /// The width of a name's record, in bytes.
@@ -110,16 +111,6 @@ fn read_name(
     match found {
         None => Err(Refusal::Bad { left: bytes.len() }),
         Some(row) => Ok(row),
-    }
-}
-
-/// An empty list with room for so many items.
-fn with_room<X: Drop>(alloc: Global, count: usize) -> Result<List<X>, NoMemory>
-    ensures { IfOk result (λ list. list ≡ []) }
-{
-    match Vec::with_capacity(alloc, count) {
-        Ok(items) => Ok(List::from_vec(items)),
-        Err(_) => Err(NoMemory),
     }
 }
 

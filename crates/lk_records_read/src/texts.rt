@@ -1,9 +1,9 @@
 //! The texts that records name, in `.gnu_incremental_strtab` (gABI "String Table").
 
-ghost use Rattle.std.specs.Prelude.{◌≡◌, ◌==◌, ◌<◌, length, position, IfOk};
+ghost use Rattle.std.specs.Prelude.{◌≡◌, ◌<◌, length, IfOk};
 ghost use Rattle.lk_model.specs.Texts.{begins_text, text_at};
 
-use crate::cursors::rest_from;
+use crate::cursors::{rest_from, zero_in};
 use lk_report::{Bytes, Name, NoMemory};
 
 /// Whether a text begins at an offset: at 0, or behind a zero.
@@ -15,12 +15,6 @@ fn begins_text(bytes: &[u8], offset: usize) -> bool
         return true;
     }
     bytes[offset - 1] == 0
-}
-
-fn zero_in(bytes: &[u8]) -> Option<usize>
-    ensures { result ≡ position (λ b. b == 0) bytes.now }
-{
-    bytes.iter().position(|b| *b == 0)
 }
 
 /// The text at an offset, without its closing zero, which shares the bytes of the section; none where no text
