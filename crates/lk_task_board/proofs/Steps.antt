@@ -20,7 +20,7 @@ use Rattle.lk_task_board.specs.Boards.{IsBoard, is_ready, is_undone}
 use Rattle.lk_task_board.proofs.Counting.{same_test, count_same, count_less, count_all, any_same, any_joined, list_any_set, list_any_none_of, get_or-replicate_any, any_listed, first_same}
 
 -- a test of phases that the new phase of a task passes as the old one did
-phase_test : (f : Phase → Bool) (ms : List Phase) (t : ℕ) (x : Phase) → t < length ms → f x ≡ f (phase_of ms t) → (k : ℕ) → f (phase_of (set ms t x) k) ≡ f (phase_of ms k)
+pub phase_test : (f : Phase → Bool) (ms : List Phase) (t : ℕ) (x : Phase) → t < length ms → f x ≡ f (phase_of ms t) → (k : ℕ) → f (phase_of (set ms t x) k) ≡ f (phase_of ms k)
 phase_test f ms t x l same k =
     elim (cases_eq k t) [
       | inl e ↦ subst (λ (j : ℕ). f (phase_of (set ms t x) j) ≡ f (phase_of ms j)) (sym e) (ap f (phase_set_same ms t x l) ∙ same)

@@ -10,7 +10,7 @@ ghost use Rattle.lk_task_board.specs.Boards.{with_phase};
 
 use crate::beginning::{blockers_of, count_releases, locks_of, mark_ready};
 use crate::locking::{is_free, lock_task, unlock_task};
-use crate::lookups::need_at;
+use crate::lookups::{is_running, need_at};
 use crate::releasing::release;
 use crate::trees::MarkTree;
 use crate::waiters::{Waiters, link_waiters};
@@ -146,6 +146,13 @@ impl Board {
         ensures { result ≡ far.is_all_done self.now.phases }
     {
         self.left == 0
+    }
+
+    /// Whether a task runs. It goes over all tasks.
+    pub fn is_one_running(&self) -> bool
+        ensures { result ≡ far.is_one_running self.now.phases }
+    {
+        self.phases.iter().any(|p| is_running(*p))
     }
 
     /// The runnable task of lowest number.

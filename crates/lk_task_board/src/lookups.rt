@@ -24,3 +24,14 @@ pub fn is_waiting(phases: &[Phase], task: u32) -> bool
         Phase::Done(_) => false,
     }
 }
+
+/// Whether a task that is so far runs.
+pub fn is_running(phase: Phase) -> bool
+    ensures { result ≡ far.is_running phase }
+{
+    match phase {
+        Phase::Waiting => false,
+        Phase::Running(_) => true,
+        Phase::Done(_) => false,
+    }
+}

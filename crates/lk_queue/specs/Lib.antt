@@ -1,0 +1,5 @@
+pub mod Answers
+pub mod Machines
+pub mod Jobs
+pub mod MachineParts
+pub mod Calls
