@@ -1,9 +1,10 @@
 -- Worked examples of the definitions: what they say of small files.
-use Rattle.std.proofs.Common.{◌≡◌, ◌-◌, ◌^◌, ◌∷◌, [], List, Some, None, codes, refl, negsuc, pos, arith}
+use Rattle.std.proofs.Common.{◌≡◌, ◌-◌, ◌^◌, ◌∷◌, [], ℕ, List, Some, None, ap, codes, get_or, inl, refl, negsuc, pos, arith}
 use Rattle.lk_report.specs.Spoken.{Rose}
 use Rattle.lk_outside.specs.declared.file_entries.FileEntry.{FileEntry}
 use Rattle.lk_outside.specs.Counts.{counted}
-use Rattle.lk_outside.specs.Disk.{patched, stored_patched, stored_cut}
+use Rattle.lk_outside.specs.Crashes.{CrashState, MayLeave}
+use Rattle.lk_outside.specs.Disk.{patched, stored_cut, stored_patched, stored_synced, stored_whole}
 use Rattle.lk_outside.specs.FilesInMemory.{map_of}
 use Rattle.lk_outside.specs.Host.{nanoseconds}
 
@@ -17,12 +18,35 @@ write_across_the_end = refl
 write_at_the_end : patched 3 (codes "d") (codes "abc") ≡ codes "abcd"
 write_at_the_end = refl
 
--- a write notes its range, a cut notes nothing
-write_noted : stored_patched 1 (codes "XY") (record { bytes = codes "abc"; written = (0, 3) ∷ [] }) ≡ record { bytes = codes "aXY"; written = (0, 3) ∷ (1, 2) ∷ [] }
+-- a file of three bytes, as it was kept; after a write inside it; after a cut of that; and kept as it is then
+whole : CrashState
+whole = record { kept = codes "abc"; ranges = []; least = 3; greatest = 3 }
+
+written : CrashState
+written = record { kept = codes "abc"; ranges = (1, 2) ∷ []; least = 3; greatest = 3 }
+
+shortened : CrashState
+shortened = record { kept = codes "abc"; ranges = (1, 2) ∷ []; least = 2; greatest = 3 }
+
+file_whole : stored_whole (codes "abc") ≡ record { bytes = codes "abc"; written = []; past = []; now = whole }
+unfolding whole
+file_whole = refl
+
+write_noted : stored_patched 1 (codes "XY") (stored_whole (codes "abc")) ≡ record { bytes = codes "aXY"; written = (1, 2) ∷ []; past = whole ∷ []; now = written }
+unfolding whole written
 write_noted = refl
 
-cut_short : stored_cut 2 (record { bytes = codes "abc"; written = (0, 3) ∷ [] }) ≡ record { bytes = codes "ab"; written = (0, 3) ∷ [] }
-cut_short = refl
+cut_noted : stored_cut 2 (stored_patched 1 (codes "XY") (stored_whole (codes "abc"))) ≡ record { bytes = codes "aX"; written = (1, 2) ∷ []; past = whole ∷ written ∷ []; now = shortened }
+unfolding whole written shortened
+cut_noted = refl
+
+sync_noted : stored_synced (record { bytes = codes "aX"; written = (1, 2) ∷ []; past = whole ∷ written ∷ []; now = shortened }) ≡ record { bytes = codes "aX"; written = (1, 2) ∷ []; past = whole ∷ written ∷ shortened ∷ []; now = record { kept = codes "aX"; ranges = []; least = 2; greatest = 2 } }
+sync_noted = refl
+
+-- no crash after the write leaves other bytes before its range
+other_byte_not_left : MayLeave written (codes "bcd") → ⊥
+unfolding written
+other_byte_not_left left = let first : get_or (codes "b") 0 0 ≡ get_or (codes "a") 0 0 = ap (λ (xs : List ℕ). get_or xs 0 0) (left.beside 0 1 (omega arith) (omega arith) (inl (omega arith), tt)) in absurd (omega arith)
 
 -- the counts stay at their last value, which counts as one that rose
 counts_on : counted 7 ≡ 8

@@ -1,2 +1,3 @@
+pub mod ChangesKept
 pub mod Entries
 mod Examples

@@ -6,11 +6,15 @@ use Rattle.lk_report.specs.declared.sinks.Answer.{Answer}
 use Rattle.lk_report.specs.declared.sinks.Answer.TheVariants as answer
 use Rattle.lk_outside.specs.declared.devices.LengthAnswer.{LengthAnswer}
 use Rattle.lk_outside.specs.declared.devices.LengthAnswer.TheVariants as known
+use Rattle.lk_outside.specs.Crashes.{CrashState, kept_whole, after_cut, after_write}
 
--- the file's bytes, and the start and length of each range written, in order
+-- the file's bytes; the start and length of each range written, in order; what a crash might have left at each earlier
+-- moment, in order, and what one may leave now
 pub record Stored : Type 0 where
   pub bytes : List ℕ
   pub written : List (ℕ × ℕ)
+  pub past : List CrashState
+  pub now : CrashState
 
 -- a device: what it reports of its file, which may be nothing, and its count of faults
 pub record Disk : Type 0 where
@@ -28,27 +32,48 @@ IsAtMostEnd at d = ForSome d.stored (λ s. at ≤ length s.bytes)
 abbrev pub patched : ℕ → List ℕ → List ℕ → List ℕ
 patched at bytes old = take at old ++ bytes ++ drop (at + length bytes) old
 
--- the file after a write, after a cut
+-- a file that no call has changed yet, and that a crash leaves as it is
+abbrev pub stored_whole : List ℕ → Stored
+stored_whole bytes = record { bytes = bytes; written = []; past = []; now = kept_whole bytes }
+
+-- the time: how often what a crash may leave has changed
+abbrev pub clock : Stored → ℕ
+clock s = length s.past
+
+-- what a crash might have left at each moment since a time, up to now
+abbrev pub moments_since : ℕ → Stored → List CrashState
+moments_since time s = drop time s.past ++ s.now ∷ []
+
+-- the file after a write, after a cut, after a sync
 abbrev pub stored_patched : ℕ → List ℕ → Stored → Stored
-stored_patched at bytes s =
-    record s { bytes = patched at bytes s.bytes; written = s.written ++ (at, length bytes) ∷ [] }
+stored_patched at bytes s = record {
+  bytes = patched at bytes s.bytes;
+  written = s.written ++ (at, length bytes) ∷ [];
+  past = s.past ++ s.now ∷ [];
+  now = after_write at (length bytes) s.now;
+}
 
 abbrev pub stored_cut : ℕ → Stored → Stored
-stored_cut n s = record s { bytes = take n s.bytes }
+stored_cut n s = record s { bytes = take n s.bytes; past = s.past ++ s.now ∷ []; now = after_cut n s.now }
 
--- after a write that failed: its range may hold any bytes, and the file may have grown up to the
--- range's end; all other bytes stay
+abbrev pub stored_synced : Stored → Stored
+stored_synced s = record s { past = s.past ++ s.now ∷ []; now = kept_whole s.bytes }
+
+-- after a write that failed: its range may hold any bytes, the file may have grown up to the range's end, and the
+-- range counts as written; all other bytes stay
 pub record PartlyPatched (at size : ℕ) (old new : Stored) : Type 0 where
   pub before : take at new.bytes ≡ take at old.bytes
   pub after : drop (at + size) new.bytes ≡ drop (at + size) old.bytes
   pub not_shorter : length old.bytes ≤ length new.bytes
   pub not_longer : length new.bytes ≤ max (length old.bytes) (at + size)
-  pub noted : (new.written ≡ old.written) ⊎ (new.written ≡ old.written ++ (at, size) ∷ [])
+  pub written : new.written ≡ old.written ++ (at, size) ∷ []
+  pub past : new.past ≡ old.past ++ old.now ∷ []
+  pub now : new.now ≡ after_write at size old.now
 
--- the same of a device that may report no bytes
+-- the same of a device that may report no bytes; or nothing was written
 abbrev pub MaybePatched : ℕ → ℕ → Option Stored → Option Stored → Type 0
 MaybePatched at size None None = Unit {0}
-MaybePatched at size (Some old) (Some new) = PartlyPatched at size old new
+MaybePatched at size (Some old) (Some new) = (new ≡ old) ⊎ PartlyPatched at size old new
 MaybePatched at size None (Some new) = ⊥
 MaybePatched at size (Some old) None = ⊥
 
@@ -87,7 +112,7 @@ CutGives old n answer.Failed new =
     ((new.stored ≡ old.stored) ⊎ (new.stored ≡ option_map (stored_cut n) old.stored))
     × Rose old.faults new.faults
 
--- what was written was asked to last
+-- what was written and cut was asked to last
 abbrev pub SyncGives : Disk → Answer → Disk → Type 0
-SyncGives old answer.Done new = Untouched old new
+SyncGives old answer.Done new = (new.stored ≡ option_map stored_synced old.stored) × (new.faults ≡ old.faults)
 SyncGives old answer.Failed new = OnlyFailed old new

@@ -1,4 +1,5 @@
 pub mod FilesState
+pub mod Crashes
 pub mod Disk
 pub mod Counts
 pub mod FilesInMemory

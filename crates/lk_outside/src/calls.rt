@@ -1,7 +1,7 @@
 //! The calls made on an object in memory: how many, which one is to fail, and how many failed.
 
-ghost use Rattle.std.specs.Prelude.{◌≡◌, ◌↔◌, IsTrue, Some, None};
-ghost use Rattle.lk_outside.specs.Counts.{counted, FailsNext, call_made};
+ghost use Rattle.std.specs.Prelude.{◌≡◌, ◌↔◌, IsTrue};
+ghost use Rattle.lk_outside.specs.Counts.{counted, FailsNext, call_made, no_calls};
 
 /// The calls of one object, all kinds together.
 #[derive(Clone, Copy, PartialEq, Eq, Debug)]
@@ -10,6 +10,8 @@ pub struct Calls {
     pub made: u64,
     /// The number of the call that is to fail, counted from 1, where one was named.
     pub failing: Option<u64>,
+    /// The number of the last call that may succeed, where every call after it is to fail.
+    pub stopping: Option<u64>,
     /// How many calls failed. Stays at its last value.
     pub faults: u64,
 }
@@ -17,26 +19,31 @@ pub struct Calls {
 impl Calls {
     /// No call was made, and none is to fail.
     pub fn none() -> Self
-        ensures { result ≡ record { made = 0; failing = None; faults = 0 } }
+        ensures { result ≡ no_calls }
     {
         Calls {
             made: 0,
             failing: None,
+            stopping: None,
             faults: 0,
         }
     }
 
-    /// Counts one more call, and reports whether it is the one that is to fail.
+    /// Counts one more call, and reports whether it is to fail.
     pub fn next_fails(&mut self) -> bool
         ensures answer { IsTrue result ↔ FailsNext self.old }
         ensures counted { self.new ≡ call_made self.old }
     {
-        let fails = match self.failing {
+        let is_named = match self.failing {
             Some(number) => number > self.made && number - self.made == 1,
             None => false,
         };
+        let is_after = match self.stopping {
+            Some(last) => last <= self.made,
+            None => false,
+        };
         self.made = self.made.saturating_add(1);
-        fails
+        is_named || is_after
     }
 
     /// Counts a call that failed.

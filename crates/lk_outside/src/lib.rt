@@ -16,6 +16,7 @@
 
 mod calls;
 mod devices;
+mod file_changes;
 mod file_entries;
 mod files;
 mod host_device;
@@ -32,6 +33,7 @@ mod turnstiles;
 
 pub use calls::Calls;
 pub use devices::{Device, LengthAnswer};
+pub use file_changes::FileChange;
 pub use file_entries::FileEntry;
 pub use files::{Files, ReadAnswer, StatAnswer};
 pub use host_device::HostDevice;

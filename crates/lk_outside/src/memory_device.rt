@@ -1,51 +1,61 @@
 //! The output file kept in memory.
 
-ghost use Rattle.std.specs.Prelude.{◌≡◌, ◌≤◌, ◌+◌, ◌++◌, ◌∷◌, [], None, Some, IfOk, OnOk, OnErr, length as list_length};
-ghost use Rattle.lk_outside.specs.Disk.{RangeLiesIn, IsAtMostEnd, LengthGives, ReadAtGives, WriteAtGives, CutGives, SyncGives, patched};
-ghost use Rattle.lk_outside.specs.DeviceInMemory.{disk_of, OnlyLooks, LengthInMemory, ReadAtInMemory, WriteAtInMemory, CutInMemory};
+ghost use Rattle.std.specs.Prelude.{◌≡◌, ◌≤◌, ◌+◌, Some, IfOk, OnOk, OnErr, length as list_length};
+ghost use Rattle.lk_outside.specs.Counts.{no_calls};
+ghost use Rattle.lk_outside.specs.Disk.{RangeLiesIn, IsAtMostEnd, LengthGives, ReadAtGives, WriteAtGives, CutGives, SyncGives, patched, stored_cut, stored_patched, stored_synced, stored_whole};
+ghost use Rattle.lk_outside.specs.DeviceInMemory.{disk_of, LengthInMemory, ReadAtInMemory, WriteAtInMemory, CutInMemory, SyncInMemory};
 
 use crate::calls::Calls;
 use crate::devices::{Device, LengthAnswer};
+use crate::file_changes::FileChange;
 use lk_report::{Answer, Bytes, NoMemory};
 use std::alloc::Global;
 use std::marker::Model;
 
 /// An output file that is kept in memory, and can be set to fail at a call.
+///
+/// It keeps its writes, cuts and syncs on record, so that contracts can say what a crash at any moment may leave.
 #[derive(Drop, Debug)]
 pub struct MemoryDevice {
+    alloc: Global,
     bytes: Vec<u8>,
-    written: Vec<(u64, u64)>,
+    begun: Bytes,
+    changes: Vec<FileChange>,
     calls: Calls,
 }
 
 impl Model for MemoryDevice {
-    ghost use Rattle.lk_outside.specs.DeviceInMemory.{DeviceInMemory};
+    ghost use Rattle.std.specs.Prelude.{◌≡◌};
+    ghost use Rattle.lk_outside.specs.DeviceInMemory.{DeviceInMemory, stored_after};
 
     ghost Value = { DeviceInMemory };
 
-    ghost view = { λ m. record { bytes = m.bytes.items; written = m.written.items; calls = m.calls } };
+    ghost view = { λ m. record { stored = stored_after m.begun m.changes.items; calls = m.calls } };
+
+    ghost invariant = { λ m. m.bytes.items ≡ (stored_after m.begun m.changes.items).bytes };
 }
 
 impl MemoryDevice {
-    /// A file of a copy of these bytes, which may be shared; no range of it was written, and no call is to fail.
+    /// A file of a copy of these bytes, which may be shared; no range of it was written, a crash leaves it as it is, and
+    /// no call is to fail.
     ///
     /// # Errors
     /// Out of memory.
+    #[tactic(auto, using(crate::proofs::ChangesKept::after_none))]
     pub fn of(alloc: Global, bytes: &Bytes) -> Result<Self, NoMemory>
-        ensures { IfOk result (λ device. device ≡ record {
-          bytes = bytes.now;
-          written = [];
-          calls = record { made = 0; failing = None; faults = 0 };
-        }) }
+        ensures { IfOk result (λ device. device ≡ record { stored = stored_whole bytes.now; calls = no_calls }) }
     {
-        match Vec::from_slice(alloc, bytes.as_slice()) {
-            Ok(bytes) => Ok(MemoryDevice {
-                bytes,
-                written: Vec::new(alloc),
-                calls: Calls::none(),
-            }),
-            Err(_) => Err(NoMemory),
-        }
+        let begun = bytes.copy(alloc)?;
+        let Ok(bytes) = Vec::from_slice(alloc, bytes.as_slice()) else {
+            return Err(NoMemory);
+        };
+        Ok(MemoryDevice {
+            alloc,
+            bytes,
+            begun,
+            changes: Vec::new(alloc),
+            calls: Calls::none(),
+        })
     }
 
     /// Lets the n-th call fail, counted from 1 since the device was made, in place of an earlier
@@ -56,9 +66,17 @@ impl MemoryDevice {
         self.calls.failing = Some(n);
     }
 
+    /// Lets every call after the n-th fail, counted from 1 since the device was made, in place of an earlier choice. A
+    /// call already made stays as it was.
+    pub fn stop_after(&mut self, n: u64)
+        ensures { self.new ≡ record self.old { calls = record self.old.calls { stopping = Some n } } }
+    {
+        self.calls.stopping = Some(n);
+    }
+
     /// The file's bytes.
     pub fn bytes(&self) -> &[u8]
-        ensures { result.now ≡ self.now.bytes }
+        ensures { result.now ≡ self.now.stored.bytes }
     {
         self.bytes.as_slice()
     }
@@ -94,7 +112,7 @@ impl Device for MemoryDevice {
     }
 
     fn read_at(&mut self, at: u64, into: &mut [u8]) -> Answer
-        requires { at + list_length into.old ≤ list_length self.old.bytes }
+        requires { at + list_length into.old ≤ list_length self.old.stored.bytes }
         ensures meets { ReadAtGives (disk_of self.old) at into.old into.new result (disk_of self.new) }
         ensures exactly { ReadAtInMemory self.old at into.old into.new result self.new }
     {
@@ -109,7 +127,7 @@ impl Device for MemoryDevice {
     }
 
     fn write_at(&mut self, at: u64, bytes: &[u8]) -> Answer
-        requires { at ≤ list_length self.old.bytes }
+        requires { at ≤ list_length self.old.stored.bytes }
         ensures meets { WriteAtGives (disk_of self.old) at bytes.now result (disk_of self.new) }
         ensures exactly { WriteAtInMemory self.old at bytes.now result self.new }
     {
@@ -122,23 +140,24 @@ impl Device for MemoryDevice {
     }
 
     fn cut(&mut self, length: u64) -> Answer
-        requires { length ≤ list_length self.old.bytes }
+        requires { length ≤ list_length self.old.stored.bytes }
         ensures meets { CutGives (disk_of self.old) length result (disk_of self.new) }
         ensures exactly { CutInMemory self.old length result self.new }
     {
-        if self.calls.next_fails() {
+        let fails = self.calls.next_fails();
+        if fails || self.cut_to(length).is_err() {
             self.calls.count_fault();
             return Answer::Failed;
         }
-        self.bytes.truncate(length as usize);
         Answer::Done
     }
 
     fn sync(&mut self) -> Answer
         ensures meets { SyncGives (disk_of self.old) result (disk_of self.new) }
-        ensures exactly { OnlyLooks self.old result self.new }
+        ensures exactly { SyncInMemory self.old result self.new }
     {
-        if self.calls.next_fails() {
+        let fails = self.calls.next_fails();
+        if fails || self.note_sync().is_err() {
             self.calls.count_fault();
             return Answer::Failed;
         }
@@ -148,19 +167,47 @@ impl Device for MemoryDevice {
 
 impl MemoryDevice {
     /// Writes the bytes and notes the range. Unchanged after out of memory.
+    #[tactic(auto, using(crate::proofs::ChangesKept::after_one_more))]
     fn write(&mut self, at: u64, bytes: &[u8]) -> Result<(), NoMemory>
-        requires { at ≤ list_length self.old.bytes }
-        ensures written { OnOk result (self.new ≡ record self.old {
-          bytes = patched at bytes.now self.old.bytes;
-          written = self.old.written ++ (at, list_length bytes.now) ∷ [];
-        }) }
+        requires { at ≤ list_length self.old.stored.bytes }
+        ensures written { OnOk result (self.new ≡ record self.old { stored = stored_patched at bytes.now self.old.stored }) }
         ensures unchanged { OnErr result (self.new ≡ self.old) }
     {
-        if self.written.reserve(1).is_err() {
+        let copy = Bytes::from_slice(self.alloc, bytes)?;
+        if self.changes.reserve(1).is_err() {
             return Err(NoMemory);
         }
         patch(&mut self.bytes, at as usize, bytes)?;
-        self.written.push_reserved((at, bytes.len() as u64));
+        self.changes
+            .push_reserved(FileChange::Wrote { at, bytes: copy });
+        Ok(())
+    }
+
+    /// Cuts the file and notes the length. Unchanged after out of memory.
+    #[tactic(auto, using(crate::proofs::ChangesKept::after_one_more))]
+    fn cut_to(&mut self, length: u64) -> Result<(), NoMemory>
+        requires { length ≤ list_length self.old.stored.bytes }
+        ensures cut { OnOk result (self.new ≡ record self.old { stored = stored_cut length self.old.stored }) }
+        ensures unchanged { OnErr result (self.new ≡ self.old) }
+    {
+        if self.changes.reserve(1).is_err() {
+            return Err(NoMemory);
+        }
+        self.bytes.truncate(length as usize);
+        self.changes.push_reserved(FileChange::Cut { length });
+        Ok(())
+    }
+
+    /// Notes that a crash leaves the file as it is. Unchanged after out of memory.
+    #[tactic(auto, using(crate::proofs::ChangesKept::after_one_more))]
+    fn note_sync(&mut self) -> Result<(), NoMemory>
+        ensures synced { OnOk result (self.new ≡ record self.old { stored = stored_synced self.old.stored }) }
+        ensures unchanged { OnErr result (self.new ≡ self.old) }
+    {
+        if self.changes.reserve(1).is_err() {
+            return Err(NoMemory);
+        }
+        self.changes.push_reserved(FileChange::Synced);
         Ok(())
     }
 }

@@ -7,7 +7,7 @@
 ghost use Rattle.std.specs.Prelude.{◌≡◌, ◌++◌, ◌∷◌, [], ◌^◌, ◌-◌, None, Some, OnOk, OnErr, length, min, position};
 ghost use Rattle.std.specs.Option.{option_copied};
 ghost use Rattle.std.specs.Str.{bytes_eq};
-ghost use Rattle.lk_outside.specs.Counts.{counted};
+ghost use Rattle.lk_outside.specs.Counts.{counted, no_calls};
 ghost use Rattle.lk_outside.specs.FilesState.{StatGives, ReadGives};
 ghost use Rattle.lk_outside.specs.FilesInMemory.{row_of, entry_at, slot_content_of, StatInMemory, ReadInMemory, SetsRow};
 
@@ -53,7 +53,7 @@ impl MemoryFiles {
           stats = [];
           reads = [];
           failed = None;
-          calls = record { made = 0; failing = None; faults = 0 };
+          calls = no_calls;
           misses = 0;
         } }
     {

@@ -3,6 +3,7 @@
 ghost use Rattle.std.specs.Prelude.{◌≡◌, [], None, Some};
 ghost use Rattle.lk_report.specs.Spoken.{Puts};
 ghost use Rattle.lk_outside.specs.SinkInMemory.{spoken_of, PutsInMemory};
+ghost use Rattle.lk_outside.specs.Counts.{no_calls};
 
 use crate::calls::Calls;
 use lk_report::{Answer, Sink};
@@ -27,7 +28,7 @@ impl Model for MemorySink {
 impl MemorySink {
     /// A sink without bytes, none of whose calls is to fail.
     pub fn new(alloc: Global) -> Self
-        ensures { result ≡ record { bytes = []; calls = record { made = 0; failing = None; faults = 0 } } }
+        ensures { result ≡ record { bytes = []; calls = no_calls } }
     {
         MemorySink {
             bytes: Vec::new(alloc),

@@ -1,7 +1,7 @@
 //! The output file kept in memory, which fails by out of memory alone.
 
-ghost use Rattle.std.specs.Prelude.{◌≡◌, ◌≤◌, ◌+◌, [], IfOk, length as list_length};
-ghost use Rattle.lk_outside.specs.Disk.{LengthGives, ReadAtGives, WriteAtGives, CutGives, SyncGives};
+ghost use Rattle.std.specs.Prelude.{◌≡◌, ◌≤◌, ◌+◌, IfOk, length as list_length};
+ghost use Rattle.lk_outside.specs.Disk.{LengthGives, ReadAtGives, WriteAtGives, CutGives, SyncGives, stored_whole};
 ghost use Rattle.lk_outside.specs.DeviceInMemory.{sure_disk_of, SureLength, SureReadAt, SureWriteAt, SureCut, SureSync};
 
 use crate::devices::{Device, LengthAnswer};
@@ -10,8 +10,8 @@ use lk_report::{Answer, Bytes, NoMemory};
 use std::alloc::Global;
 use std::marker::Model;
 
-/// An output file that is kept in memory. A write fails only where there is no memory for what it
-/// adds; no other call fails.
+/// An output file that is kept in memory. A write, a cut and a sync fail only where there is no memory for what they
+/// add or keep on record; no other call fails.
 #[derive(Drop, Debug)]
 pub struct SureDevice {
     device: MemoryDevice,
@@ -23,22 +23,18 @@ impl Model for SureDevice {
 
     ghost Value = { SureDeviceInMemory };
 
-    ghost view = { λ s. record {
-      bytes = s.device.bytes;
-      written = s.device.written;
-      faults = s.device.calls.faults;
-    } };
+    ghost view = { λ s. record { stored = s.device.stored; faults = s.device.calls.faults } };
 
-    ghost invariant = { λ s. s.device.calls.failing ≡ None };
+    ghost invariant = { λ s. (s.device.calls.failing ≡ None) × (s.device.calls.stopping ≡ None) };
 }
 
 impl SureDevice {
-    /// A file of a copy of these bytes, of which no range was written.
+    /// A file of a copy of these bytes, of which no range was written, and which a crash leaves as it is.
     ///
     /// # Errors
     /// Out of memory.
     pub fn of(alloc: Global, bytes: &Bytes) -> Result<Self, NoMemory>
-        ensures { IfOk result (λ device. device ≡ record { bytes = bytes.now; written = []; faults = 0 }) }
+        ensures { IfOk result (λ device. device ≡ record { stored = stored_whole bytes.now; faults = 0 }) }
     {
         Ok(SureDevice {
             device: MemoryDevice::of(alloc, bytes)?,
@@ -47,7 +43,7 @@ impl SureDevice {
 
     /// The file's bytes.
     pub fn bytes(&self) -> &[u8]
-        ensures { result.now ≡ self.now.bytes }
+        ensures { result.now ≡ self.now.stored.bytes }
     {
         self.device.bytes()
     }
@@ -64,7 +60,7 @@ impl Device for SureDevice {
     }
 
     fn read_at(&mut self, at: u64, into: &mut [u8]) -> Answer
-        requires { at + list_length into.old ≤ list_length self.old.bytes }
+        requires { at + list_length into.old ≤ list_length self.old.stored.bytes }
         ensures meets { ReadAtGives (sure_disk_of self.old) at into.old into.new result (sure_disk_of self.new) }
         ensures exactly { SureReadAt self.old at into.old into.new result self.new }
     {
@@ -72,7 +68,7 @@ impl Device for SureDevice {
     }
 
     fn write_at(&mut self, at: u64, bytes: &[u8]) -> Answer
-        requires { at ≤ list_length self.old.bytes }
+        requires { at ≤ list_length self.old.stored.bytes }
         ensures meets { WriteAtGives (sure_disk_of self.old) at bytes.now result (sure_disk_of self.new) }
         ensures exactly { SureWriteAt self.old at bytes.now result self.new }
     {
@@ -80,7 +76,7 @@ impl Device for SureDevice {
     }
 
     fn cut(&mut self, length: u64) -> Answer
-        requires { length ≤ list_length self.old.bytes }
+        requires { length ≤ list_length self.old.stored.bytes }
         ensures meets { CutGives (sure_disk_of self.old) length result (sure_disk_of self.new) }
         ensures exactly { SureCut self.old length result self.new }
     {

@@ -29,7 +29,7 @@ impl Model for SureFiles {
       misses = s.files.misses;
     } };
 
-    ghost invariant = { λ s. s.files.calls.failing ≡ None };
+    ghost invariant = { λ s. (s.files.calls.failing ≡ None) × (s.files.calls.stopping ≡ None) };
 }
 
 impl SureFiles {

@@ -23,7 +23,7 @@ impl Model for SureSink {
 
     ghost view = { λ s. record { bytes = s.sink.bytes; faults = s.sink.calls.faults } };
 
-    ghost invariant = { λ s. s.sink.calls.failing ≡ None };
+    ghost invariant = { λ s. (s.sink.calls.failing ≡ None) × (s.sink.calls.stopping ≡ None) };
 }
 
 impl SureSink {
