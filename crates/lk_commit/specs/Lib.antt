@@ -1,0 +1,2 @@
+pub mod CrashStates
+pub mod Stages
