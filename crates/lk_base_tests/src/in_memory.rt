@@ -190,6 +190,22 @@ fn a_named_call_on_a_device_fails(rt: HostRuntime) -> Result<(), NoMemory> {
     Ok(())
 }
 
+/// Which of the five calls were done on `abc` where every call after this one is to fail.
+fn calls_done_up_to(alloc: Global, last: u64) -> Result<[bool; 5], NoMemory> {
+    let mut device = device_of(alloc, b"abc")?;
+    device.stop_after(last);
+    Ok(calls_done(&mut device))
+}
+
+#[test]
+fn a_device_stops_after_a_call(rt: HostRuntime) -> Result<(), NoMemory> {
+    for last in 0..6 {
+        let done = [last > 0, last > 1, last > 2, last > 3, last > 4];
+        assert_eq!(rt; calls_done_up_to(rt.alloc(), last)?, done, "{last} calls");
+    }
+    Ok(())
+}
+
 /// Writes a byte at the start, syncs, and cuts the file to nothing.
 fn use_sure_device(device: &mut SureDevice) -> [bool; 4] {
     let length = device.length() == LengthAnswer::Known(3);

@@ -1,12 +1,14 @@
 -- The stages together: a commit of a whole image.
 use Rattle.std.proofs.Common.{◌≡◌, ◌≤◌, ◌<◌, ◌+◌, ◌-◌, ◌⊎◌, ◌++◌, ◌∷◌, [], ℕ, List, true, false, length, take, drop, refl, sym, ◌∙◌, ap, subst, inl, inr, arith, append_assoc, append-nil}
 use Rattle.std.proofs.lemmas.List.{length-drop, length-take-le}
-use Rattle.lk_outside.specs.Crashes.{CrashLeaves}
+use Rattle.std.specs.List.{AllByRecursion}
+use Rattle.lk_ranges.specs.Stretches.{Stretch}
 use Rattle.lk_outside.specs.Disk.{Stored}
-use Rattle.lk_commit.specs.CrashStates.{IsFinished, IsOldNewOrOpen, IsOpen, IsStopped, LeftBy, sealed}
-use Rattle.lk_commit.specs.Stages.{HasNoSeal, IsFileOpened, IsFileUnopened, IsImageWritten, IsOldOrOpen, IsSealed, IsSealedOrOpen, IsUnfinished, LeftOldOrOpen, StaysOpen, Went, at_seal, with_seal}
+use Rattle.lk_commit.specs.CrashStates.{BeginInTurn, IsBesideSeal, IsFinished, IsOpen, IsStopped, LeftBy, sealed, updated}
+use Rattle.lk_commit.specs.Stages.{IsFileOpened, IsFileUnopened, IsImageWritten, IsSealed, IsSealedOrOpen, IsUnfinished, IsUpdateWritten, LeftOldOrOpen, StaysOpen, Went, at_seal}
 use Rattle.lk_commit.proofs.Moments.{went_always, went_more, went_weaker}
 use Rattle.lk_commit.proofs.CrashesLeave.{kept_now}
+use Rattle.lk_commit.proofs.RangesWritten.{updated_like}
 use Rattle.lk_commit.proofs.SealPlaces.{resealed}
 
 left_opened : (new : List ℕ) (s : Stored) (file : List ℕ) → LeftOldOrOpen s file → LeftBy new s file
@@ -35,32 +37,52 @@ not_put new s t u opened stays = record {
   file = inr (inr (inr stays.unsealed.file.1));
 }
 
--- what is known once they were
-pub record IsPut (image : List ℕ) (before after : Stored) : Type 0 where
-  pub moments : Went (LeftBy (sealed image) before) before after
-  pub new : sealed after.bytes ≡ sealed image
+-- what is known once they were: the file is one that the seal makes the new one
+pub record IsPut (new : List ℕ) (before after : Stored) : Type 0 where
+  pub moments : Went (LeftBy new before) before after
+  pub is_new : sealed after.bytes ≡ new
 
-pub is_put : (image : List ℕ) (s t u : Stored) → 4096 < length image → IsFileOpened s t → IsImageWritten image t u → IsPut image s u
+put_by : (new : List ℕ) (s t u : Stored) → IsFileOpened s t → StaysOpen t u → sealed u.bytes ≡ new → IsPut new s u
+put_by new s t u opened stays is_new = record {
+  moments = went_more s t u (went_weaker s t (left_opened new s) opened.moments) (went_weaker t u (left_open new s) stays.moments);
+  is_new = is_new;
+}
+
+pub is_put : (image : List ℕ) (s t u : Stored) → 4096 < length image → IsFileOpened s t → IsImageWritten image t u → IsPut (sealed image) s u
 is_put image s t u long opened written =
     let size : length (drop 4088 t.bytes) ≡ length t.bytes - 4088 = length-drop 4088 t.bytes in
     let more = opened.file.0 in
     let eight : length (at_seal t.bytes) ≡ 8 = length-take-le 8 (drop 4088 t.bytes) (omega (arith, size, more)) in
+    put_by (sealed image) s t u opened written.stays (ap sealed written.bytes ∙ resealed (at_seal t.bytes) image eight (omega (arith, long)))
+
+-- of an update
+abbrev pub IsUpdatePut : List Stretch → ℕ → Stored → Stored → Type 0
+IsUpdatePut ws n s t = IsPut (sealed (updated ws n s.bytes)) s t
+
+pub is_update_put : (ws : List Stretch) (n : ℕ) (s t u : Stored) → 4096 < n → AllByRecursion IsBesideSeal ws → 4096 < length s.bytes → BeginInTurn (length s.bytes) ws → IsFileOpened s t → IsUpdateWritten ws n t u → IsUpdatePut ws n s u
+is_update_put ws n s t u high apart long begins opened written =
+    put_by (sealed (updated ws n s.bytes)) s t u opened written.stays
+        (ap sealed written.bytes ∙ updated_like ws n s.bytes t.bytes high apart begins (opened.beside (omega (arith, long))))
+
+-- ---- the seal
+
+pub finished : (new : List ℕ) (s t u : Stored) → IsPut new s t → IsSealed t u → IsFinished new s u
+finished new s t u put done =
+    let is_new = done.bytes ∙ put.is_new in
     record {
-      moments = went_more s t u (went_weaker s t (left_opened (sealed image) s) opened.moments) (went_weaker t u (left_open (sealed image) s) written.stays.moments);
-      new = ap sealed written.bytes ∙ resealed (at_seal t.bytes) image eight (omega (arith, long));
+      at_each_moment = went_always s u (went_more s t u put.moments (went_weaker t u (left_sealed new t.bytes s put.is_new) done.moments));
+      file = is_new;
+      lasting = kept_now (λ file. file ≡ new) u done.kept is_new;
     }
 
-pub finished : (image : List ℕ) (s t u : Stored) → IsPut image s t → IsSealed t u → IsFinished (sealed image) s u
-finished image s t u put done =
-    let new = done.bytes ∙ put.new in
-    record {
-      at_each_moment = went_always s u (went_more s t u put.moments (went_weaker t u (left_sealed (sealed image) t.bytes s put.new) done.moments));
-      file = new;
-      lasting = kept_now (λ file. file ≡ sealed image) u done.kept new;
-    }
-
-pub unfinished : (image : List ℕ) (s t u : Stored) → IsPut image s t → IsUnfinished t u → IsStopped (sealed image) s u
-unfinished image s t u put left = record {
-  at_each_moment = went_always s u (went_more s t u put.moments (went_weaker t u (left_sealed (sealed image) t.bytes s put.new) left.moments));
-  file = elim left.file [ inl is ↦ inr (inl (is ∙ put.new)) | inr is_open ↦ inr (inr is_open) ];
+pub unfinished : (new : List ℕ) (s t u : Stored) → IsPut new s t → IsUnfinished t u → IsStopped new s u
+unfinished new s t u put left = record {
+  at_each_moment = went_always s u (went_more s t u put.moments (went_weaker t u (left_sealed new t.bytes s put.is_new) left.moments));
+  file = elim left.file [ inl is ↦ inr (inl (is ∙ put.is_new)) | inr is_open ↦ inr (inr is_open) ];
 }
+
+pub update_finished : (ws : List Stretch) (n : ℕ) (s t u : Stored) → IsUpdatePut ws n s t → IsSealed t u → IsFinished (sealed (updated ws n s.bytes)) s u
+update_finished ws n s t u put done = finished (sealed (updated ws n s.bytes)) s t u put done
+
+pub update_unfinished : (ws : List Stretch) (n : ℕ) (s t u : Stored) → IsUpdatePut ws n s t → IsUnfinished t u → IsStopped (sealed (updated ws n s.bytes)) s u
+update_unfinished ws n s t u put left = unfinished (sealed (updated ws n s.bytes)) s t u put left

@@ -14,7 +14,7 @@ pub stays_more : (s t u : Stored) → StaysOpen s t → StaysOpen t u → StaysO
 stays_more s t u first second = record { moments = went_more s t u first.moments second.moments; unsealed = second.unsealed }
 
 -- one call after what was done before
-written_stays : (at : ℕ) (xs : List ℕ) (s : Stored) → (at + length xs ≤ 4088) ⊎ (4096 ≤ at) → at ≤ length s.bytes → IsUnsealed s → StaysOpen s (stored_patched at xs s)
+pub written_stays : (at : ℕ) (xs : List ℕ) (s : Stored) → (at + length xs ≤ 4088) ⊎ (4096 ≤ at) → at ≤ length s.bytes → IsUnsealed s → StaysOpen s (stored_patched at xs s)
 written_stays at xs s apart fits unsealed = stays_one s (stored_patched at xs s) refl unsealed (unsealed_written at xs s apart fits unsealed)
 
 pub failed_stays : (at size : ℕ) (s t : Stored) → (at + size ≤ 4088) ⊎ (4096 ≤ at) → IsUnsealed s → (t ≡ s) ⊎ PartlyPatched at size s t → StaysOpen s t

@@ -63,7 +63,7 @@ pub record IsBeside (at size : ℕ) (old new : List ℕ) : Type 0 where
   pub after : drop (at + size) new ≡ drop (at + size) old
   pub not_shorter : length old ≤ length new
 
-shape : (at : ℕ) (xs old : List ℕ) → patched at xs old ≡ take at old ++ (xs ++ drop (at + length xs) old)
+pub shape : (at : ℕ) (xs old : List ℕ) → patched at xs old ≡ take at old ++ (xs ++ drop (at + length xs) old)
 shape at xs old = append_assoc (take at old) xs (drop (at + length xs) old)
 
 pub beside_patched : (at : ℕ) (xs old : List ℕ) → at ≤ length old → IsBeside at (length xs) old (patched at xs old)

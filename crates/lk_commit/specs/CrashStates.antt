@@ -1,17 +1,31 @@
 -- This project's own: what a commit leaves of the output file, whatever moment the machine stops at.
-use Rattle.std.specs.Prelude.{◌≡◌, ◌≤◌, ◌+◌, ◌++◌, ◌⊎◌, ℕ, List, Option, Some, None, false, drop, length, take}
+use Rattle.std.specs.Prelude.{◌≡◌, ◌≤◌, ◌+◌, ◌++◌, ◌∷◌, [], ◌⊎◌, ℕ, List, Option, Some, None, false, drop, length, max, take}
 use Rattle.std.specs.List.{AllByRecursion}
 use Rattle.lk_report.specs.Spoken.{Rose}
 use Rattle.lk_report.specs.declared.sinks.Answer.{Answer}
 use Rattle.lk_report.specs.declared.sinks.Answer.TheVariants as answer
 use Rattle.lk_model.specs.Bases.{is_sealed}
 use Rattle.lk_model.specs.Images.{seal, seal_offset}
+use Rattle.lk_ranges.specs.Stretches.{Stretch, end_of, with_stretches}
 use Rattle.lk_outside.specs.Crashes.{CrashLeaves, MayLeave}
 use Rattle.lk_outside.specs.Disk.{Disk, Stored, clock, moments_since}
 
 -- bytes with the seal at its place
 abbrev pub sealed : List ℕ → List ℕ
 sealed bytes = take seal_offset bytes ++ (seal ++ drop (seal_offset + length seal) bytes)
+
+-- a file with ranges written one after another, and then cut to a length
+abbrev pub updated : List Stretch → ℕ → List ℕ → List ℕ
+updated writes n old = take n (with_stretches old writes)
+
+-- a range has no byte of the seal
+abbrev pub IsBesideSeal : Stretch → Type 0
+IsBesideSeal w = (end_of w ≤ seal_offset) ⊎ (seal_offset + length seal ≤ w.start)
+
+-- each range begins in a file of this length, with those before it written, or where it ends
+abbrev pub BeginInTurn : ℕ → List Stretch → Type 0
+BeginInTurn n [] = Unit {0}
+BeginInTurn n (w ∷ ws) = (w.start ≤ n) × BeginInTurn (max n (end_of w)) ws
 
 -- a file that no link takes as a base: it ends where the headers end, or has no seal
 abbrev pub IsOpen : List ℕ → Type 0

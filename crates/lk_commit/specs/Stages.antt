@@ -5,7 +5,8 @@ use Rattle.std.specs.List.{AllByRecursion}
 use Rattle.lk_model.specs.Bases.{is_sealed}
 use Rattle.lk_outside.specs.Crashes.{CrashLeaves, CrashState, IsApart, MayLeave, kept_whole}
 use Rattle.lk_outside.specs.Disk.{Stored}
-use Rattle.lk_commit.specs.CrashStates.{IsOpen, sealed}
+use Rattle.lk_ranges.specs.Stretches.{Stretch, with_stretches}
+use Rattle.lk_commit.specs.CrashStates.{BeginInTurn, IsBesideSeal, IsOpen, sealed, updated}
 
 -- the moments between two states, and the last: a crash at each leaves a file with a property
 pub record Went (P : List ℕ → Type 0) (before after : Stored) : Type 0 where
@@ -112,6 +113,24 @@ at_seal file = take 8 (drop 4088 file)
 pub record IsPartWritten (image : List ℕ) (before after : Stored) : Type 0 where
   pub stays : StaysOpen before after
   pub bytes : take (length image) after.bytes ≡ with_seal (at_seal before.bytes) image
+
+-- the first ranges were written, and these are left
+pub record IsPartUpdated (left all : List Stretch) (before after : Stored) : Type 0 where
+  pub stays : StaysOpen before after
+  pub bytes : with_stretches after.bytes left ≡ with_stretches before.bytes all
+  pub apart : AllByRecursion IsBesideSeal left
+  pub in_turn : BeginInTurn (length after.bytes) left
+
+-- all of them were
+pub record AreWritten (writes : List Stretch) (before after : Stored) : Type 0 where
+  pub stays : StaysOpen before after
+  pub bytes : after.bytes ≡ with_stretches before.bytes writes
+
+-- the file is kept, and is the one before with the ranges written, at a length
+pub record IsUpdateWritten (writes : List Stretch) (n : ℕ) (before after : Stored) : Type 0 where
+  pub stays : StaysOpen before after
+  pub kept : IsKept after
+  pub bytes : after.bytes ≡ updated writes n before.bytes
 
 -- a longer file was cut
 pub record IsCutTo (n : ℕ) (before after : Stored) : Type 0 where

@@ -11,5 +11,7 @@ mod contents;
 mod full;
 mod opening;
 mod sealing;
+mod updates;
 
 pub use full::commit_full;
+pub use updates::commit_update;

@@ -34,6 +34,9 @@ use Rattle.lk_law_records.specs.Recordable.{InputsFit}
 use Rattle.lk_law_records.proofs.Limits.{limit-reports, limits-make-recordable}
 use Rattle.lk_law_records.proofs.Recorded.{full-place-recorded}
 use Rattle.lk_driver.specs.LinkPasses.{IsPlaced, IsRefused, LinkGives}
+use Rattle.lk_law_writes.proofs.FullWritten.{inputs_are_layable}
+use Rattle.lk_driver.specs.Committing.{IsSealedImage}
+use Rattle.lk_driver.proofs.ImagesSealed.{sealed_image}
 use Rattle.lk_driver.proofs.PassAnswers.{placed_by, placed_is}
 
 -- ---- values that fit
@@ -118,20 +121,22 @@ linked_at :
     → section_count (full_place r) ≤ 60000 → memory_of (full_place r) ≤ 2 ^ 31
     → NotRefused r (full_place r)
     → IsLaidOut (stretches_of r (full_place r)) image
-    → IsLinkAt r (full_place r) image
+    → IsLinkAt r (full_place r) image × IsSealedImage image
 unfolding stretches_of
 linked_at options xs image fits sound few low is laid =
     let r = resolve options xs in
     let place = full_place r in
     let lawful = inputs_are_lawful options xs sound in
-    let within : WithinLimits r place = record { memory = low; headers = limit-reports limit.Headers 64 (length (program_headers place (exec_stack_of r))) is.headers } in
+    let within : WithinLimits r place = record { memory = low; headers = limit-reports limit.Headers 64 (length (program_headers place (exec_stack_of r))) is.headers } in (
     record {
       recorded = full-place-recorded options xs image (limits-make-recordable options xs fits lawful (limits_kept r place few low is)) laid;
       lawful = lawful;
       fits = all_fit r place is.faults;
       loaded = all_pieces_loaded r place (tail_parts r place) image (inputs_are_loadable options xs sound within) laid;
       laid = laid;
-    }
+    },
+    sealed_image r place (tail_parts r place) image (inputs_are_layable options xs sound within) laid,
+    )
 
 -- ---- refusals
 

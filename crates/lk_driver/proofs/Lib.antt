@@ -1,5 +1,6 @@
 pub mod PassAnswers
 pub mod ObjectsStored
+pub mod ImagesSealed
 pub mod ImagesLinked
 pub mod LinksReported
 pub mod OuterWords

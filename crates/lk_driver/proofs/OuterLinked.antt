@@ -22,6 +22,7 @@ use Rattle.lk_inputs.specs.Refusals.{AreInputs, CommandInputs, inputs_refusal}
 use Rattle.lk_inputs.specs.FileAnswers.{known_map}
 use Rattle.lk_inputs.specs.declared.inputs.Inputs.{Inputs}
 use Rattle.lk_driver.specs.ImageGiven.{ImageFirst, ImageGiven, ImageReported, IsAccepted, IsRefused, status_of}
+use Rattle.lk_driver.specs.Committing.{SealedImage}
 use Rattle.lk_driver.specs.LinkAnswers.{LinkAnswers}
 use Rattle.lk_driver.specs.LinkStatuses.{IsLinkStatus}
 use Rattle.lk_driver.specs.Outer.{AnswerIs, FilesKept, InputsAsked, IsDue, IsImage, IsOfInputs, LastKept, MissingReported, ReadFaultReported, StatusAsked, words_answer}
@@ -204,7 +205,7 @@ reported-image : (words : List (List ℕ)) (c : Command) (old new : FilesState) 
 reported-image words c old new inputs (Ok image) a g links =
     if-some old.known (λ (state : Known). IsImage words state.map image) (λ state e.
     let reported = reported-link words c old new inputs (Ok image) state.map a g links (map-known old state e) in
-    image-of words c state.map image a reported.1.1)
+    image-of words c state.map image a reported.1.1.0)
 reported-image words c old new inputs (Err s) a g links = tt
 
 -- ---- all of it
@@ -227,6 +228,10 @@ kept-of words c old new inputs result a g k =
     ok-same : (c d : Command) → (let x : Result Command UsageFault = Ok c in x) ≡ Ok d → c ≡ d
     ok-same c d e = cc
 
+sealed-of : (r : Resolved) (result : Result (List ℕ) Status) → LinkAnswers r result → SealedImage result
+sealed-of r (Ok image) h = h.1.1
+sealed-of r (Err s) h = tt
+
 pub linked : (words : List (List ℕ)) (c : Command) (old new : FilesState) (inputs : Inputs) (result : Result (List ℕ) Status)
     → IsAccepted words c → InputsRead c old (Ok inputs) new → Links c inputs result → ImageGiven words old result new
 linked words c old new inputs result a g links =
@@ -238,6 +243,7 @@ linked words c old new inputs result a g links =
       first = subst P (sym (words-decide words c a)) (first-of (inputs_limit c) old new inputs result g.first k);
       due = due-of words c old new inputs result a g links k;
       image = reported-image words c old new inputs result a g links;
+      sealed = sealed-of (resolve c.options read.0) result (links read.0 read.1);
       fault = fault-of words old new result k g.faults;
       missing = missing-of old new result k (g.misses (no-library c a.waits));
       kept = kept-of words c old new inputs result a g k;

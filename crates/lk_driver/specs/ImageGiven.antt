@@ -8,6 +8,7 @@ use Rattle.lk_model.specs.Grammar.{grammar}
 use Rattle.lk_model.specs.declared.commands.Command.{Command}
 use Rattle.lk_outside.specs.FilesState.{FilesState}
 use Rattle.lk_law_records.specs.CommandFits.{CommandFits}
+use Rattle.lk_driver.specs.Committing.{SealedImage}
 use Rattle.lk_driver.specs.Outer.{FilesKept, IsDue, IsImage, IsOfInputs, IsFirstRefusal, MissingReported, ReadFaultReported, words_answer}
 
 -- ---- words
@@ -66,6 +67,7 @@ pub record ImageGiven (words : List (List ℕ)) (old : FilesState) (result : Res
   pub first : ImageFirst (words_answer words) old result new
   pub due : IsDue words old (status_of result)
   pub image : ImageReported words old result
+  pub sealed : SealedImage result
   pub fault : ReadFaultReported words old (status_of result) new
   pub missing : MissingReported old (status_of result) new
   pub kept : FilesKept (words_answer words) words old (status_of result) new

@@ -11,6 +11,7 @@ use Rattle.lk_model.specs.Resolving.{resolve}
 use Rattle.lk_model.specs.Views.{Input, Resolved}
 use Rattle.lk_model.specs.declared.layouts.Needs.{Needs}
 use Rattle.lk_model.specs.declared.layouts.Placement.{Placement}
+use Rattle.lk_driver.specs.Committing.{IsSealedImage}
 use Rattle.lk_resolve.specs.Given.{found_in}
 use Rattle.lk_scan_inputs.specs.Scans.{InputsScanned}
 use Rattle.lk_scan_inputs.specs.declared.link_scanning.ScannedInputs.{ScannedInputs}
@@ -69,4 +70,4 @@ PlaceAnswers r result = PassGives (placed_answer r (full_place r)) (placed_answe
 
 -- what a link answers of which this is due: its image
 abbrev pub LinkGives : Status → Resolved → Result (List ℕ) Status → Type 0
-LinkGives due r result = PassGives due full_link (IsLinkAt r (full_place r)) result
+LinkGives due r result = PassGives due full_link (λ image. IsLinkAt r (full_place r) image × IsSealedImage image) result

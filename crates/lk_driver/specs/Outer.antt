@@ -15,6 +15,7 @@ use Rattle.lk_model.specs.Grammar.{grammar}
 use Rattle.lk_model.specs.Links.{IsFullLink}
 use Rattle.lk_model.specs.declared.commands.Command.{Command}
 use Rattle.lk_outside.specs.Disk.{Disk}
+use Rattle.lk_commit.specs.CrashStates.{IsFinished, IsStopped, WhereReported}
 use Rattle.lk_outside.specs.FilesState.{FilesState}
 use Rattle.lk_inputs.specs.Asked.{Asked, AskedSome, MissedMaybe, MissesReported, all_places, known_failed, is_missing, look_ups_of, paths_read, reads_before}
 use Rattle.lk_inputs.specs.LookUps.{inputs_limit}
@@ -71,6 +72,20 @@ DoneLeaves words files (status.Done (outcome.Full None)) disk =
     IfSome files.known (λ k. IfSome disk.stored (λ s. IsImage words k.map s.bytes))
 DoneLeaves words files (status.Done other) disk = ⊥
 DoneLeaves words files other disk = Unit {0}
+
+-- where the device reports its bytes, there is an image, which is one of the words' command where the files report
+-- their map, and a crash at any moment of the link leaves what one before the link left, the old file, that image, or
+-- a file that no link takes as a base. Once the link is done a crash leaves the image; after a failed device the file
+-- is one of the three.
+abbrev pub IsOwnImage : List (List ℕ) → FilesState → List ℕ → Type 0
+IsOwnImage words files image = IfSome files.known (λ k. IsImage words k.map image)
+
+abbrev pub StopLeaves : List (List ℕ) → FilesState → Disk → Status → Disk → Type 0
+StopLeaves words files old (status.Done how) new =
+    WhereReported (λ before after. (image : List ℕ) × (IsOwnImage words files image × IsFinished image before after)) old.stored new.stored
+StopLeaves words files old status.DeviceFault new =
+    WhereReported (λ before after. (image : List ℕ) × (IsOwnImage words files image × IsStopped image before after)) old.stored new.stored
+StopLeaves words files old other new = new ≡ old
 
 -- ---- failures of the outside
 

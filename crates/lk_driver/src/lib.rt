@@ -12,7 +12,6 @@
 //! untouched, whatever the files hold.
 #![tactic(auto)]
 
-mod commits;
 mod link_needs;
 mod run;
 mod words;

@@ -4,13 +4,13 @@
 ghost use Rattle.std.specs.Prelude.{◌≡◌};
 ghost use Rattle.lk_report.specs.Spoken.{Says};
 ghost use Rattle.lk_report.specs.Texts.{text_of};
-ghost use Rattle.lk_driver.specs.Committing.{IsCommitted};
+ghost use Rattle.lk_driver.specs.Committing.{IsCommitted, IsSealedImage};
 ghost use Rattle.lk_driver.specs.ImageGiven.{ImageGiven};
-ghost use Rattle.lk_driver.specs.Outer.{IsDue, DoneLeaves, ReadFaultReported, DeviceFaultReported, MissingReported, DeviceKept, FilesKept, WordsFirst, words_answer};
+ghost use Rattle.lk_driver.specs.Outer.{IsDue, DoneLeaves, StopLeaves, ReadFaultReported, DeviceFaultReported, MissingReported, DeviceKept, FilesKept, WordsFirst, words_answer};
 
-use crate::commits::commit;
 use crate::link_needs::check_needs;
 use crate::words::accepted_command;
+use lk_commit::commit_full;
 use lk_image::link_image;
 use lk_inputs::{Inputs, read_command, resolve_inputs};
 use lk_layout::full_layout;
@@ -39,6 +39,7 @@ pub fn run_alone<F: Files, D: Device, S: Sink, G: Turnstile>(
     ensures words_first { WordsFirst (words_answer words.now) (F.state files.old) (D.disk out.old) result (F.state files.new) (D.disk out.new) }
     ensures answer { IsDue words.now (F.state files.old) result }
     ensures done { DoneLeaves words.now (F.state files.old) result (D.disk out.new) }
+    ensures stopped { StopLeaves words.now (F.state files.old) (D.disk out.old) result (D.disk out.new) }
     ensures read_fault { ReadFaultReported words.now (F.state files.old) result (F.state files.new) }
     ensures device_fault { DeviceFaultReported (D.disk out.old) result (D.disk out.new) }
     ensures missing { MissingReported (F.state files.old) result (F.state files.new) }
@@ -95,11 +96,12 @@ fn image_of_words<F: Files>(alloc: Global, words: &NameList, files: &mut F) -> R
     image
 }
 
-/// Puts an image on the output device.
+/// Puts an image on the output device, so that a stop at any moment leaves the old file, the image, or no base.
 fn commit_image<D: Device>(out: &mut D, image: &Bytes) -> Status
+    requires { IsSealedImage image.now }
     ensures { IsCommitted (D.disk out.old) image.now result (D.disk out.new) }
 {
-    match commit(out, image.as_slice()) {
+    match commit_full(out, image.as_slice()) {
         Answer::Done => Status::Done(Outcome::Full(None)),
         Answer::Failed => Status::DeviceFault,
     }

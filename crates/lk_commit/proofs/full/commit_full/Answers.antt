@@ -27,8 +27,8 @@ returns-in-Done-put_image g c =
     let written = g.D.Device.disk c.put_image.new.device in
     let after = g.D.Device.disk c.put_seal.new.device in
     let put = reported_then (λ s t u a b. is_put image s t u c.requires a b) before.stored opened.stored written.stored c.in-Done.ensures.1 c.in-Done-put_image.ensures.1 in
-    stage_then (IsPut image) IsSealed IsUnfinished (IsFinished (sealed image)) (IsStopped (sealed image)) before written after c.put_seal.result
-    (finished image) (unfinished image) (c.in-Done-put_image.ensures.0 ∙ c.in-Done.ensures.0) put c.put_seal.ensures
+    stage_then (IsPut (sealed image)) IsSealed IsUnfinished (IsFinished (sealed image)) (IsStopped (sealed image)) before written after c.put_seal.result
+    (finished (sealed image)) (unfinished (sealed image)) (c.in-Done-put_image.ensures.0 ∙ c.in-Done.ensures.0) put c.put_seal.ensures
 
 pub returns-in-Failed-put_image : goal.returns-in-Failed-put_image
 returns-in-Failed-put_image g c =
