@@ -62,7 +62,7 @@ IsUpdatePut ws n s t = IsPut (sealed (updated ws n s.bytes)) s t
 pub is_update_put : (ws : List Stretch) (n : ℕ) (s t u : Stored) → 4096 < n → AllByRecursion IsBesideSeal ws → 4096 < length s.bytes → BeginInTurn (length s.bytes) ws → IsFileOpened s t → IsUpdateWritten ws n t u → IsUpdatePut ws n s u
 is_update_put ws n s t u high apart long begins opened written =
     put_by (sealed (updated ws n s.bytes)) s t u opened written.stays
-        (ap sealed written.bytes ∙ updated_like ws n s.bytes t.bytes high apart begins (opened.beside (omega (arith, long))))
+    (ap sealed written.bytes ∙ updated_like ws n s.bytes t.bytes high apart begins (opened.beside (omega (arith, long))))
 
 -- ---- the seal
 

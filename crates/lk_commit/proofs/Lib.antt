@@ -3,6 +3,7 @@ pub mod CrashesLeave
 pub mod FileOpened
 pub mod ImageWritten
 pub mod Moments
+pub mod OpenFiles
 pub mod RangesWritten
 pub mod Reported
 pub mod SealPlaces

@@ -33,8 +33,8 @@ take_low at xs l low fits =
     let front : length (take at l) ≡ at = length-take-le at l fits in
     let parts : length (take at l) + (length xs + k) ≡ 4088 = omega (arith, front, all) in
     let taken : take 4088 (take at l ++ (xs ++ rest)) ≡ take at l ++ (xs ++ take k rest) =
-        ap (λ n. take n (take at l ++ (xs ++ rest))) (sym parts)
-        ∙ (take-append-add (take at l) (xs ++ rest) (length xs + k) ∙ ap (λ m. take at l ++ m) (take-append-add xs rest k)) in
+    ap (λ n. take n (take at l ++ (xs ++ rest))) (sym parts)
+    ∙ (take-append-add (take at l) (xs ++ rest) (length xs + k) ∙ ap (λ m. take at l ++ m) (take-append-add xs rest k)) in
     let behind : take k rest ≡ drop (at + length xs) (take 4088 l) = sym (drop-take (at + length xs) k l) ∙ ap (λ n. drop (at + length xs) (take n l)) all in
     ap (take 4088) (shape at xs l)
     ∙ (taken
@@ -76,20 +76,20 @@ same_patched at xs old new apart fits same =
         let k = 4096 - (at + length xs) in
         let all : (at + length xs) + k ≡ 4096 = omega (arith, low) in
         let of : (l : List ℕ) → at ≤ length l → drop 4096 (patched at xs l) ≡ drop 4096 l = λ l h.
-            subst (λ n. drop n (patched at xs l) ≡ drop n l) all (sym (drop-drop k (at + length xs) (patched at xs l)) ∙ (ap (drop k) (beside_patched at xs l h).after ∙ drop-drop k (at + length xs) l)) in
+        subst (λ n. drop n (patched at xs l) ≡ drop n l) all (sym (drop-drop k (at + length xs) (patched at xs l)) ∙ (ap (drop k) (beside_patched at xs l h).after ∙ drop-drop k (at + length xs) l)) in
         of new (omega (arith, fits, size)) ∙ (same.after ∙ sym (of old fits))
 
     before_high : 4096 ≤ at → at ≤ length new → take 4088 (patched at xs new) ≡ take 4088 (patched at xs old)
     before_high high fits_new =
         let of : (l : List ℕ) → at ≤ length l → take 4088 (patched at xs l) ≡ take 4088 l = λ l h.
-            sym (take-take 4088 at (patched at xs l) (omega (arith, high))) ∙ (ap (take 4088) (beside_patched at xs l h).before ∙ take-take 4088 at l (omega (arith, high))) in
+        sym (take-take 4088 at (patched at xs l) (omega (arith, high))) ∙ (ap (take 4088) (beside_patched at xs l h).before ∙ take-take 4088 at l (omega (arith, high))) in
         of new fits_new ∙ (same.before ∙ sym (of old fits))
 
     behind_high : (m : ℕ) → 4096 + m ≡ at → drop 4096 (patched at xs new) ≡ drop 4096 (patched at xs old)
     behind_high m e =
         let size = same.size in
         subst (λ n. drop 4096 (patched n xs new) ≡ drop 4096 (patched n xs old)) e
-            (drop_high m xs new (omega (arith, fits, size, e)) ∙ (ap (λ l. take m l ++ (xs ++ drop (m + length xs) l)) same.after ∙ sym (drop_high m xs old (omega (arith, fits, e)))))
+        (drop_high m xs new (omega (arith, fits, size, e)) ∙ (ap (λ l. take m l ++ (xs ++ drop (m + length xs) l)) same.after ∙ sym (drop_high m xs old (omega (arith, fits, e)))))
 
 -- ---- ranges one after another
 
@@ -100,10 +100,10 @@ same_updated : (ws : List Stretch) (old new : List ℕ) → AllByRecursion IsBes
 same_updated [] old new apart begins same = same
 same_updated (w ∷ ws) old new apart begins same =
     let next = same_updated ws (patched w.start w.bytes old) (patched w.start w.bytes new) apart.1
-        (subst (λ n. BeginInTurn n ws) (sym (length_patched w.start w.bytes old begins.0)) begins.1)
-        (same_patched w.start w.bytes old new apart.0 begins.0 same) in
+    (subst (λ n. BeginInTurn n ws) (sym (length_patched w.start w.bytes old begins.0)) begins.1)
+    (same_patched w.start w.bytes old new apart.0 begins.0 same) in
     subst (λ l. SameBesideSeal l (with_stretches new (w ∷ ws))) (sym (written_same w ws old))
-        (subst (λ l. SameBesideSeal (with_stretches (patched w.start w.bytes old) ws) l) (sym (written_same w ws new)) next)
+    (subst (λ l. SameBesideSeal (with_stretches (patched w.start w.bytes old) ws) l) (sym (written_same w ws new)) next)
 
 same_cut : (n : ℕ) (old new : List ℕ) → 4096 ≤ n → SameBesideSeal old new → SameBesideSeal (take n old) (take n new)
 same_cut n old new high same =

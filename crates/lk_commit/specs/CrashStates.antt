@@ -1,10 +1,11 @@
 -- This project's own: what a commit leaves of the output file, whatever moment the machine stops at.
-use Rattle.std.specs.Prelude.{◌≡◌, ◌≤◌, ◌+◌, ◌++◌, ◌∷◌, [], ◌⊎◌, ℕ, List, Option, Some, None, false, drop, length, max, take}
+use Rattle.std.specs.Prelude.{◌≡◌, ◌≤◌, ◌+◌, ◌++◌, ◌∷◌, [], ◌⊎◌, ℕ, List, Option, Some, None, Err, false, drop, length, max, take}
 use Rattle.std.specs.List.{AllByRecursion}
 use Rattle.lk_report.specs.Spoken.{Rose}
 use Rattle.lk_report.specs.declared.sinks.Answer.{Answer}
 use Rattle.lk_report.specs.declared.sinks.Answer.TheVariants as answer
-use Rattle.lk_model.specs.Bases.{is_sealed}
+use Rattle.lk_report.specs.declared.causes.Cause.TheVariants.{BaseOpen, NoBase}
+use Rattle.lk_model.specs.Bases.{base_of, is_sealed}
 use Rattle.lk_model.specs.Images.{seal, seal_offset}
 use Rattle.lk_ranges.specs.Stretches.{Stretch, end_of, with_stretches}
 use Rattle.lk_outside.specs.Crashes.{CrashLeaves, MayLeave}
@@ -69,3 +70,7 @@ StageGives IfDone IfFailed old answer.Failed new = Rose old.faults new.faults ×
 -- a commit of a file that depends on the old one
 abbrev pub CommitGives : (List ℕ → List ℕ) → Disk → Answer → Disk → Type 0
 CommitGives new = StageGives (λ before after. IsFinished (new before.bytes) before after) (λ before after. IsStopped (new before.bytes) before after)
+
+-- an open file is never taken as a base
+abbrev pub OpenIsNoBase : Type 0
+OpenIsNoBase = (file : List ℕ) → IsOpen file → (base_of (Some file) ≡ Err NoBase) ⊎ (base_of (Some file) ≡ Err BaseOpen)

@@ -9,9 +9,11 @@
 
 mod contents;
 mod full;
+mod laws;
 mod opening;
 mod sealing;
 mod updates;
 
 pub use full::commit_full;
+pub use laws::open_files_are_no_base;
 pub use updates::commit_update;

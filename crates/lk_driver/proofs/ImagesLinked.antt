@@ -128,14 +128,14 @@ linked_at options xs image fits sound few low is laid =
     let place = full_place r in
     let lawful = inputs_are_lawful options xs sound in
     let within : WithinLimits r place = record { memory = low; headers = limit-reports limit.Headers 64 (length (program_headers place (exec_stack_of r))) is.headers } in (
-    record {
-      recorded = full-place-recorded options xs image (limits-make-recordable options xs fits lawful (limits_kept r place few low is)) laid;
-      lawful = lawful;
-      fits = all_fit r place is.faults;
-      loaded = all_pieces_loaded r place (tail_parts r place) image (inputs_are_loadable options xs sound within) laid;
-      laid = laid;
-    },
-    sealed_image r place (tail_parts r place) image (inputs_are_layable options xs sound within) laid,
+      record {
+        recorded = full-place-recorded options xs image (limits-make-recordable options xs fits lawful (limits_kept r place few low is)) laid;
+        lawful = lawful;
+        fits = all_fit r place is.faults;
+        loaded = all_pieces_loaded r place (tail_parts r place) image (inputs_are_loadable options xs sound within) laid;
+        laid = laid;
+      },
+      sealed_image r place (tail_parts r place) image (inputs_are_layable options xs sound within) laid,
     )
 
 -- ---- refusals

@@ -43,8 +43,7 @@ sealed_image r place parts image layable laid =
     let dropped = length-drop 4088 image in
     let within : 4096 ≤ length image = omega (arith, there, taken, dropped) in
     let ends : length image ≡ last.at + length last.bytes = laid.ends ∙ end-last (stretch 0 _ ∷ stretch seal_offset seal ∷ between) last in
-    let where_last = apart (stretch seal_offset seal) last share (omega arith) (omega (arith, long)) in
-    (
+    let where_last = apart (stretch seal_offset seal) last share (omega arith) (omega (arith, long)) in (
       elim where_last [ inl behind ↦ omega (arith, behind, ends, long) | inr before ↦ absurd (omega (arith, before, ends, within)) ],
       ap (λ (l : List ℕ). bytes_eq l seal) laid.is_at.1.0 ∙ (bytes_eq-Decides seal seal).1 refl,
     )

@@ -21,7 +21,7 @@ put_ranges-requires-clause-in_turn g c =
     let ws = c.args.writes.now in
     let known = both_known (λ s. 4096 < length s.bytes) (λ s. BeginInTurn (length s.bytes) ws) before.stored c.requires.file c.requires.in_turn in
     reported_after (λ s t h. let long = h.0.0 in subst (λ n. BeginInTurn n ws) (sym (h.1.beside (omega (arith, long))).size) h.0.1) before.stored opened.stored
-        (reported_given IsFileOpened (λ s. (4096 < length s.bytes) × BeginInTurn (length s.bytes) ws) before.stored opened.stored known c.in-Done.ensures.1)
+    (reported_given IsFileOpened (λ s. (4096 < length s.bytes) × BeginInTurn (length s.bytes) ws) before.stored opened.stored known c.in-Done.ensures.1)
 
 pub put_seal-requires-clause-no_seal : goal.put_seal-requires-clause-no_seal
 put_seal-requires-clause-no_seal g c =
@@ -40,7 +40,7 @@ returns-in-Done-put_ranges g c =
     let given = reported_given IsFileOpened (λ s. (4096 < length s.bytes) × BeginInTurn (length s.bytes) ws) before.stored opened.stored known c.in-Done.ensures.1 in
     let put = reported_then (λ s t u a b. is_update_put ws n s t u c.requires.long c.requires.apart a.0.0 a.0.1 a.1 b) before.stored opened.stored written.stored given c.in-Done-put_ranges.ensures.1 in
     stage_then (IsUpdatePut ws n) IsSealed IsUnfinished (λ s u. IsFinished (sealed (updated ws n s.bytes)) s u) (λ s u. IsStopped (sealed (updated ws n s.bytes)) s u) before written after c.put_seal.result
-        (update_finished ws n) (update_unfinished ws n) (c.in-Done-put_ranges.ensures.0 ∙ c.in-Done.ensures.0) put c.put_seal.ensures
+    (update_finished ws n) (update_unfinished ws n) (c.in-Done-put_ranges.ensures.0 ∙ c.in-Done.ensures.0) put c.put_seal.ensures
 
 pub returns-in-Failed-put_ranges : goal.returns-in-Failed-put_ranges
 returns-in-Failed-put_ranges g c =

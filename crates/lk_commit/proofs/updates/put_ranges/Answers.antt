@@ -24,7 +24,7 @@ returns-in-Done-cut_to g c =
     let after = g.D.Device.disk c.sync.new.self in
     let both = reported_then (update_cut ws n) before.stored written.stored cut.stored c.in-Done.ensures.1 c.in-Done-cut_to.ensures.1 in
     stage_then (λ s t. StaysOpen s t × (t.bytes ≡ updated ws n s.bytes)) (λ t u. u ≡ stored_synced t) (λ t u. u ≡ t) (IsUpdateWritten ws n) StaysOpen before cut after c.sync.result
-        (update_synced ws n) (λ s t u h same. subst (StaysOpen s) (sym same) h.0) (c.in-Done-cut_to.ensures.0 ∙ c.in-Done.ensures.0) both (sync_call cut after c.sync.result c.sync.ensures)
+    (update_synced ws n) (λ s t u h same. subst (StaysOpen s) (sym same) h.0) (c.in-Done-cut_to.ensures.0 ∙ c.in-Done.ensures.0) both (sync_call cut after c.sync.result c.sync.ensures)
 
 pub returns-in-Failed-cut_to : goal.returns-in-Failed-cut_to
 returns-in-Failed-cut_to g c =
