@@ -1,6 +1,7 @@
 pub mod PassAnswers
 pub mod ObjectsStored
 pub mod ImagesSealed
+pub mod ImagesCommitted
 pub mod ImagesLinked
 pub mod LinksReported
 pub mod OuterWords
