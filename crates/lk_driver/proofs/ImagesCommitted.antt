@@ -60,10 +60,10 @@ is-due words files files_after disk disk_after image s given h = of_both (IsDue 
 pub done-leaves : (words : List (List ℕ)) (files files_after : FilesState) (disk disk_after : Disk) (image : List ℕ) (s : Status) → ImageGiven words files (Ok image) files_after → IsCommitted disk image s disk_after → DoneLeaves words files s disk_after
 done-leaves words files files_after disk disk_after image s given h = of_both (λ (t : Status). DoneLeaves words files t disk_after) disk image s disk_after h
     (λ c.
-        let is = reported_after {S = λ (t : Stored). t.bytes ≡ image} (λ t u (f : IsFinished image t u). f.file) disk.stored disk_after.stored c.1 in
-        if-some files.known (λ (k : Known). IfSome disk_after.stored (λ t. IsImage words k.map t.bytes)) (λ k e.
-        if-some disk_after.stored (λ (t : Stored). IsImage words k.map t.bytes) (λ t there.
-        subst (IsImage words k.map) (sym (is t there)) (some-of files.known (λ (x : Known). IsImage words x.map image) given.image k e))))
+    let is = reported_after {S = λ (t : Stored). t.bytes ≡ image} (λ t u (f : IsFinished image t u). f.file) disk.stored disk_after.stored c.1 in
+    if-some files.known (λ (k : Known). IfSome disk_after.stored (λ t. IsImage words k.map t.bytes)) (λ k e.
+    if-some disk_after.stored (λ (t : Stored). IsImage words k.map t.bytes) (λ t there.
+    subst (IsImage words k.map) (sym (is t there)) (some-of files.known (λ (x : Known). IsImage words x.map image) given.image k e))))
     (λ c. tt)
 
 pub stop-leaves : (words : List (List ℕ)) (files files_after : FilesState) (disk disk_after : Disk) (image : List ℕ) (s : Status) → ImageGiven words files (Ok image) files_after → IsCommitted disk image s disk_after → StopLeaves words files disk s disk_after
