@@ -1,5 +1,8 @@
 //! A whole image is committed over other files.
 
+ghost use Rattle.std.specs.Prelude.{◌≡◌, length as list_length};
+ghost use Rattle.std.specs.Result.{IfOk};
+
 use lk_commit::commit_full;
 use lk_outside::{Answer, MemoryDevice, SureDevice};
 use lk_report::{Bytes, NoMemory};
@@ -10,7 +13,9 @@ const SEAL: &[u8] = b"LKSEAL01";
 const SEAL_OFFSET: usize = 4088;
 
 /// A file of so many bytes of one kind, with the seal at its place where it is longer than the headers.
-fn sealed_file(alloc: Global, length: usize, byte: u8) -> Result<Vec<u8>, NoMemory> {
+pub fn sealed_file(alloc: Global, length: usize, byte: u8) -> Result<Vec<u8>, NoMemory>
+    ensures { IfOk result (λ file. list_length file.items ≡ length) }
+{
     let Ok(mut file) = Vec::from_elem(alloc, byte, length) else {
         return Err(NoMemory);
     };
@@ -29,13 +34,15 @@ fn commit<D: lk_outside::Device>(alloc: Global, device: &mut D) -> Result<Answer
 }
 
 /// A device whose file is sealed and has so many bytes `o`.
-fn old_device(alloc: Global, length: usize) -> Result<MemoryDevice, NoMemory> {
+pub fn old_device(alloc: Global, length: usize) -> Result<MemoryDevice, NoMemory>
+    ensures { IfOk result (λ device. list_length device.stored.bytes ≡ length) }
+{
     let old = Bytes::from_vec(sealed_file(alloc, length, b'o')?)?;
     MemoryDevice::of(alloc, &old)
 }
 
 /// Whether a file is open: too short for a base, or without the seal.
-fn is_open(file: &[u8]) -> bool {
+pub fn is_open(file: &[u8]) -> bool {
     file.len() <= 4096 || &file[SEAL_OFFSET..SEAL_OFFSET + 8] != SEAL
 }
 

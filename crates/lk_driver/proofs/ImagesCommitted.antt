@@ -68,8 +68,8 @@ done-leaves words files files_after disk disk_after image s given h = of_both (�
 
 pub stop-leaves : (words : List (List ℕ)) (files files_after : FilesState) (disk disk_after : Disk) (image : List ℕ) (s : Status) → ImageGiven words files (Ok image) files_after → IsCommitted disk image s disk_after → StopLeaves words files disk s disk_after
 stop-leaves words files files_after disk disk_after image s given h = of_both (λ (t : Status). StopLeaves words files disk t disk_after) disk image s disk_after h
-    (λ c. reported_map2 (λ t u (f : IsFinished image t u). (image, given.image, f)) disk.stored disk_after.stored c.1)
-    (λ c. reported_map2 (λ t u (f : IsStopped image t u). (image, given.image, f)) disk.stored disk_after.stored c.1)
+    (λ c. reported_map2 (λ t u (f : IsFinished image t u). (image, (given.image, f))) disk.stored disk_after.stored c.1)
+    (λ c. reported_map2 (λ t u (f : IsStopped image t u). (image, (given.image, f))) disk.stored disk_after.stored c.1)
 
 kept-by : (o : Option Status) (words : List (List ℕ)) (files files_after : FilesState) → FilesKept o words files full_link files_after → FilesKept o words files status.DeviceFault files_after
 kept-by (Some due) words files files_after h = h

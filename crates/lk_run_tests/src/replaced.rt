@@ -58,3 +58,26 @@ fn a_foreign_file_is_replaced(rt: HostRuntime) -> Result<(), Fail> {
     assert!(rt; is_replaced(rt.alloc(), file_of(rt.alloc(), 20_000, 0x5a)?)?);
     Ok(())
 }
+
+/// The output of an earlier link, on a device that stops after so many calls.
+fn stopping(alloc: Global, calls: u64) -> Result<MemoryDevice, Fail> {
+    let earlier = earlier_output(alloc)?;
+    let mut out = MemoryDevice::of(alloc, &Bytes::from_slice(alloc, earlier.bytes())?)?;
+    out.stop_after(calls);
+    Ok(out)
+}
+
+/// What a link over it leaves that is stopped after so many calls.
+fn left_after(alloc: Global, calls: u64) -> Result<MemoryDevice, Fail> {
+    let stopped = smallest_onto(alloc, stopping(alloc, calls)?)?;
+    Ok(MemoryDevice::of(alloc, &Bytes::from_slice(alloc, stopped.out.bytes())?)?)
+}
+
+#[test]
+fn a_link_replaces_what_a_stopped_one_left(rt: HostRuntime) -> Result<(), Fail> {
+    for calls in 0..14 {
+        let left = left_after(rt.alloc(), calls)?;
+        assert!(rt; is_replaced(rt.alloc(), left)?, "{calls} calls");
+    }
+    Ok(())
+}
