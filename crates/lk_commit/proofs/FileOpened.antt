@@ -1,11 +1,11 @@
 -- The first stage: the seal of the old file is broken, or a short file becomes zeros.
-use Rattle.std.proofs.Common.{◌≡◌, ◌≤◌, ◌<◌, ◌+◌, ◌-◌, ◌⊎◌, ◌++◌, ◌∷◌, [], ℕ, List, true, false, length, take, drop, refl, sym, ◌∙◌, ap, subst, inl, inr, arith, append_assoc, append-nil}
+use Rattle.std.proofs.Common.{◌≡◌, ◌≤◌, ◌<◌, ◌⊎◌, [], ℕ, List, true, false, length, refl, sym, ◌∙◌, ap, subst, inl, inr, arith, append-nil}
 use Rattle.std.specs.Prelude.{max}
 use Rattle.std.proofs.lemmas.List.{length-replicate}
 use Rattle.lk_model.specs.Bases.{is_sealed}
-use Rattle.lk_outside.specs.Crashes.{CrashLeaves, CrashState, MayLeave, after_write}
+use Rattle.lk_outside.specs.Crashes.{CrashLeaves, CrashState, after_write}
 use Rattle.lk_outside.specs.Disk.{PartlyPatched, Stored, patched, stored_cut, stored_patched, stored_synced}
-use Rattle.lk_commit.specs.CrashStates.{IsOpen, sealed}
+use Rattle.lk_commit.specs.CrashStates.{IsOpen}
 use Rattle.lk_commit.specs.Stages.{HasNoSeal, IsBroken, IsFileOpened, IsFileUnopened, IsKept, IsKeptOpened, IsKeptUnopened, IsLeftShort, IsMadeZeros, IsOldOrOpen, IsShort, IsUnbroken, LeftOldOrOpen, SameBesideSeal, Went}
 use Rattle.lk_commit.proofs.Moments.{went_more, went_none, went_one, went_weaker}
 use Rattle.lk_commit.proofs.CrashesLeave.{kept_now, seal_left, seal_partly, short_now, sync_bytes, sync_keeps, went_sync}

@@ -1,14 +1,10 @@
 -- The second stage: the contents are written, and the place of the seal keeps its bytes.
-use Rattle.std.proofs.Common.{◌≡◌, ◌≤◌, ◌<◌, ◌+◌, ◌-◌, ◌⊎◌, ◌++◌, ◌∷◌, [], ℕ, List, true, false, length, take, drop, refl, sym, ◌∙◌, ap, subst, inl, inr, arith, append_assoc, append-nil}
-use Rattle.std.specs.Prelude.{max}
-use Rattle.std.proofs.Math.Seq.{take-length}
-use Rattle.std.proofs.lemmas.List.{drop-drop, drop_at, length-append, length-drop, length-take-le, take-append-drop, take_all, take_at}
+use Rattle.std.proofs.Common.{◌≡◌, ◌≤◌, ◌<◌, ◌+◌, ◌-◌, ◌⊎◌, ◌++◌, ℕ, List, length, take, drop, refl, sym, ◌∙◌, ap, subst, inl, inr, arith, append_assoc}
+use Rattle.std.proofs.lemmas.List.{drop-drop, length-append, length-drop, length-take-le, take-append-drop, take_all, take_at}
 use Rattle.lk_outside.specs.Disk.{PartlyPatched, Stored, patched, stored_cut, stored_patched, stored_synced}
-use Rattle.lk_commit.specs.CrashStates.{IsOpen}
-use Rattle.lk_commit.specs.Stages.{IsCutTo, IsImageWritten, IsPartWritten, IsUnsealed, StaysOpen, Went, at_seal, with_seal}
-use Rattle.lk_commit.proofs.Moments.{went_more, went_one}
-use Rattle.lk_commit.proofs.CrashesLeave.{stays_none, stays_one, sync_bytes, sync_keeps, unsealed_cut, unsealed_now, unsealed_partly, unsealed_synced, unsealed_written}
-use Rattle.lk_commit.proofs.SealPlaces.{beside_patched}
+use Rattle.lk_commit.specs.Stages.{IsCutTo, IsImageWritten, IsPartWritten, IsUnsealed, StaysOpen, at_seal, with_seal}
+use Rattle.lk_commit.proofs.Moments.{went_more}
+use Rattle.lk_commit.proofs.CrashesLeave.{stays_none, stays_one, sync_bytes, sync_keeps, unsealed_cut, unsealed_partly, unsealed_synced, unsealed_written}
 
 pub stays_more : (s t u : Stored) → StaysOpen s t → StaysOpen t u → StaysOpen s u
 stays_more s t u first second = record { moments = went_more s t u first.moments second.moments; unsealed = second.unsealed }

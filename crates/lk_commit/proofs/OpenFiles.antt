@@ -1,5 +1,5 @@
 -- An open file is never taken as a base.
-use Rattle.std.proofs.Common.{◌≡◌, ◌≤◌, ◌⊎◌, ℕ, List, Bool, true, false, Some, Err, length, refl, sym, ap, subst, inl, inr}
+use Rattle.std.proofs.Common.{◌≡◌, ◌⊎◌, ℕ, List, Bool, true, false, Some, Err, length, refl, sym, ap, subst, inl, inr}
 use Rattle.std.specs.Prelude.{nat_le, if◌then◌else◌, Result}
 use Rattle.std.proofs.lemmas.Bool.{le-leb}
 use Rattle.lk_report.specs.declared.causes.Cause.{Cause}

@@ -1,17 +1,17 @@
 -- Ranges are written one after another beside the seal, and then the file is cut.
-use Rattle.std.proofs.Common.{◌≡◌, ◌≤◌, ◌<◌, ◌+◌, ◌-◌, ◌⊎◌, ◌++◌, ◌∷◌, [], ℕ, List, length, take, drop, refl, sym, ◌∙◌, ap, subst, inl, inr, arith, append_assoc}
+use Rattle.std.proofs.Common.{◌≡◌, ◌≤◌, ◌<◌, ◌+◌, ◌-◌, ◌⊎◌, ◌++◌, ◌∷◌, [], ℕ, List, length, take, drop, refl, sym, ◌∙◌, ap, subst, inl, inr, arith}
 use Rattle.std.specs.Prelude.{max}
 use Rattle.std.specs.List.{AllByRecursion}
 use Rattle.std.proofs.Math.Seq.{take-append-add}
 use Rattle.std.proofs.lemmas.List.{drop-append-le, drop-drop, drop-take, length-append, length-drop, length-take, length-take-le, take-take}
-use Rattle.lk_ranges.specs.Stretches.{Stretch, end_of, with_stretches}
+use Rattle.lk_ranges.specs.Stretches.{Stretch, with_stretches}
 use Rattle.lk_outside.specs.Disk.{PartlyPatched, Stored, patched, stored_patched, stored_synced}
 use Rattle.lk_model.specs.Images.{seal}
 use Rattle.lk_commit.specs.CrashStates.{BeginInTurn, IsBesideSeal, sealed, updated}
 use Rattle.lk_commit.specs.Stages.{AreWritten, IsCutTo, IsPartUpdated, IsUnsealed, IsUpdateWritten, SameBesideSeal, StaysOpen}
 use Rattle.lk_commit.proofs.CrashesLeave.{stays_none, sync_bytes, sync_keeps}
 use Rattle.lk_commit.proofs.ImageWritten.{failed_stays, stays_more, synced_stays, written_stays}
-use Rattle.lk_commit.proofs.SealPlaces.{IsBeside, beside_patched, shape}
+use Rattle.lk_commit.proofs.SealPlaces.{beside_patched, shape}
 
 -- ---- one range
 

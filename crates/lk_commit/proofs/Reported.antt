@@ -1,6 +1,6 @@
 -- Stages one after another, where the device reports its file and where it does not.
 use Rattle.std.proofs.Common.{◌≡◌, ℕ, List, Option, Some, None, refl, sym, ◌∙◌, ap, subst, inl, inr}
-use Rattle.std.specs.Prelude.{option_map, length, take, drop, ◌⊎◌}
+use Rattle.std.specs.Prelude.{option_map, length, ◌⊎◌}
 use Rattle.std.specs.Option.{ForSome}
 use Rattle.std.proofs.lemmas.Option.{none-some}
 use Rattle.lk_report.specs.Spoken.{Rose}

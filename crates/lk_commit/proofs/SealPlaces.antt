@@ -1,13 +1,13 @@
 -- The bytes at the place of the seal and beside it, as a file is patched and cut.
-use Rattle.std.proofs.Common.{◌≡◌, ◌≤◌, ◌<◌, ◌+◌, ◌-◌, ◌⊎◌, ◌++◌, ◌∷◌, [], ℕ, List, Bool, true, false, length, take, drop, refl, sym, ◌∙◌, ap, subst, inl, inr, arith, append_assoc, length-append, length-drop}
-use Rattle.std.specs.Prelude.{replicate, max}
+use Rattle.std.proofs.Common.{◌≡◌, ◌≤◌, ◌+◌, ◌-◌, ◌⊎◌, ◌++◌, ℕ, List, Bool, true, false, length, take, drop, refl, sym, ◌∙◌, ap, subst, inl, inr, arith, append_assoc, length-append, length-drop}
+use Rattle.std.specs.Prelude.{replicate}
 use Rattle.std.specs.Str.{bytes_eq}
-use Rattle.std.proofs.lemmas.List.{append-nil, drop-drop, drop-replicate, drop-take, drop_at, length-replicate, length-take, length-take-le, take-append-drop, take-replicate, take-take, take_at}
+use Rattle.std.proofs.lemmas.List.{drop-drop, drop-replicate, drop-take, drop_at, length-replicate, length-take, length-take-le, take-append-drop, take-replicate, take-take, take_at}
 use Rattle.std.proofs.lemmas.Slice.Eq.{bytes_eq-Decides}
 use Rattle.lk_model.specs.Bases.{is_sealed}
 use Rattle.lk_model.specs.Images.{seal}
 use Rattle.lk_outside.specs.Disk.{patched}
-use Rattle.lk_commit.specs.CrashStates.{IsOpen, sealed}
+use Rattle.lk_commit.specs.CrashStates.{sealed}
 use Rattle.lk_commit.specs.Stages.{HasNoSeal, IsSealedOrOpen, SameBesideSeal, at_seal, with_seal}
 
 -- a file is what is before the place of the seal, what is there, and what is behind it

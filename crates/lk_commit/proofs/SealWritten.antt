@@ -1,8 +1,8 @@
 -- The last stage: the seal is written in a file that is kept and has none.
-use Rattle.std.proofs.Common.{◌≡◌, ◌≤◌, ◌<◌, ◌+◌, ◌-◌, ◌⊎◌, ◌++◌, ◌∷◌, [], ℕ, List, true, false, length, take, drop, refl, sym, ◌∙◌, ap, subst, inl, inr, arith, append_assoc, append-nil}
+use Rattle.std.proofs.Common.{◌≡◌, ◌⊎◌, take, drop, refl, sym, ◌∙◌, subst, inl, inr, append_assoc}
 use Rattle.lk_model.specs.Images.{seal}
 use Rattle.lk_outside.specs.Crashes.{CrashLeaves, CrashState, after_write}
-use Rattle.lk_outside.specs.Disk.{PartlyPatched, Stored, patched, stored_patched, stored_synced}
+use Rattle.lk_outside.specs.Disk.{PartlyPatched, Stored, stored_patched, stored_synced}
 use Rattle.lk_commit.specs.CrashStates.{sealed}
 use Rattle.lk_commit.specs.Stages.{HasNoSeal, IsKept, IsSealed, IsSealedOrOpen, IsUnfinished, Went}
 use Rattle.lk_commit.proofs.Moments.{went_more, went_none, went_one}

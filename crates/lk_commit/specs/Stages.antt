@@ -1,6 +1,6 @@
 -- The stages of a commit: the old seal is broken, the contents are written, the seal is written. Between them the
 -- file is kept, so that a crash leaves it as it is.
-use Rattle.std.specs.Prelude.{◌≡◌, ◌≤◌, ◌<◌, ◌+◌, ◌++◌, ◌⊎◌, ℕ, List, false, true, drop, length, replicate, take}
+use Rattle.std.specs.Prelude.{◌≡◌, ◌≤◌, ◌++◌, ◌⊎◌, ℕ, List, false, drop, length, replicate, take}
 use Rattle.std.specs.List.{AllByRecursion}
 use Rattle.lk_model.specs.Bases.{is_sealed}
 use Rattle.lk_outside.specs.Crashes.{CrashLeaves, CrashState, IsApart, MayLeave, kept_whole}

@@ -1,5 +1,5 @@
 -- From the image of the words' command, and what its commit answers, to what the top call says.
-use Rattle.std.proofs.Common.{◌≡◌, ◌⊎◌, refl, sym, subst, inl, inr, ℕ, List, Option, Some, None, Result, Ok, Err}
+use Rattle.std.proofs.Common.{◌≡◌, ◌⊎◌, refl, sym, subst, inl, inr, ℕ, List, Option, Some, None, Ok}
 use Rattle.std.specs.Prelude.{IfSome}
 use Rattle.lk_report.specs.declared.sinks.Answer.TheVariants as answer
 use Rattle.lk_report.specs.declared.statuses.Outcome.TheVariants as outcome
@@ -8,11 +8,11 @@ use Rattle.lk_report.specs.declared.statuses.Status.TheVariants as status
 use Rattle.lk_model.specs.Answers.{full_link, static_answer}
 use Rattle.lk_outside.specs.Disk.{Disk, Stored}
 use Rattle.lk_outside.specs.FilesState.{FilesState, Known}
-use Rattle.lk_commit.specs.CrashStates.{CommitGives, IsFinished, IsStopped, WhereReported}
+use Rattle.lk_commit.specs.CrashStates.{CommitGives, IsFinished, IsStopped}
 use Rattle.lk_commit.proofs.Reported.{reported_after, reported_map2}
 use Rattle.lk_driver.specs.Committing.{IsCommitted}
 use Rattle.lk_driver.specs.ImageGiven.{ImageFirst, ImageGiven}
-use Rattle.lk_driver.specs.Outer.{AnswerIs, DoneLeaves, FilesKept, IsDue, IsImage, IsOwnImage, StopLeaves, WordsFirst, words_answer}
+use Rattle.lk_driver.specs.Outer.{AnswerIs, DoneLeaves, FilesKept, IsDue, IsImage, StopLeaves, WordsFirst, words_answer}
 use Rattle.lk_driver.proofs.OuterAsked.{if-some}
 
 -- a commit is done, or the device failed

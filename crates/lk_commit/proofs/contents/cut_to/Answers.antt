@@ -1,5 +1,5 @@
 -- A longer file is cut, and any other is as it was.
-use Rattle.std.proofs.Common.{◌≡◌, ◌≤◌, ◌<◌, ◌+◌, ◌-◌, ◌⊎◌, ◌++◌, ◌∷◌, [], ℕ, List, true, false, length, take, drop, refl, sym, ◌∙◌, ap, subst, inl, inr, arith}
+use Rattle.std.proofs.Common.{◌≡◌, length, sym, ◌∙◌, subst, arith}
 use Rattle.std.specs.Prelude.{IfSome}
 use Rattle.lk_outside.specs.Disk.{Stored}
 use Rattle.lk_commit.specs.Stages.{IsCutTo, IsUnsealed, StaysOpen}

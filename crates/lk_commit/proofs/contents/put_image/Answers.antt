@@ -1,8 +1,8 @@
 -- The image is written, a longer file cut, and then that is kept.
-use Rattle.std.proofs.Common.{◌≡◌, ◌≤◌, ◌<◌, ◌+◌, ◌-◌, ◌⊎◌, ◌++◌, ◌∷◌, [], ℕ, List, true, false, length, take, drop, refl, sym, ◌∙◌, ap, subst, inl, inr, arith}
+use Rattle.std.proofs.Common.{◌≡◌, sym, ◌∙◌, subst}
 use Rattle.lk_report.specs.Spoken.{Rose}
-use Rattle.lk_outside.specs.Disk.{Stored, stored_synced}
-use Rattle.lk_commit.specs.Stages.{IsCutTo, IsImageWritten, IsPartWritten, StaysOpen, at_seal, with_seal}
+use Rattle.lk_outside.specs.Disk.{stored_synced}
+use Rattle.lk_commit.specs.Stages.{IsImageWritten, IsPartWritten, StaysOpen, at_seal, with_seal}
 use Rattle.lk_commit.proofs.ImageWritten.{image_cut, image_synced, stays_more}
 use Rattle.lk_commit.proofs.Reported.{reported_after, reported_then, stage_then, sync_call}
 use Rattle.lk_commit.proofs.contents.put_image.Goals as goal

@@ -1,7 +1,6 @@
 -- The part before the seal is written, and then the part behind it.
-use Rattle.std.proofs.Common.{◌≡◌, ◌≤◌, ◌<◌, ◌+◌, ◌-◌, ◌⊎◌, ◌++◌, ◌∷◌, [], ℕ, List, true, false, length, take, drop, refl, sym, ◌∙◌, ap, subst, inl, inr, arith}
+use Rattle.std.proofs.Common.{◌≡◌, ◌≤◌, length, drop, sym, ◌∙◌, ap, subst, inl, arith}
 use Rattle.std.proofs.lemmas.List.{drop-drop}
-use Rattle.lk_outside.specs.Disk.{Stored}
 use Rattle.lk_commit.specs.Stages.{IsPartWritten, IsUnsealed, StaysOpen}
 use Rattle.lk_commit.proofs.ImageWritten.{IsHeadWritten, failed_stays, head_written, part_failed, part_written}
 use Rattle.lk_commit.proofs.Reported.{reported_after, write_done, write_failed, write_stage}

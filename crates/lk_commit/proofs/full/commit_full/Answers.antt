@@ -1,7 +1,6 @@
 -- The three stages one after another.
-use Rattle.std.proofs.Common.{◌≡◌, ◌≤◌, ◌<◌, ◌+◌, ◌-◌, ◌⊎◌, ◌++◌, ◌∷◌, [], ℕ, List, true, false, length, take, drop, refl, sym, ◌∙◌, ap, subst, inl, inr, arith}
+use Rattle.std.proofs.Common.{◌∙◌, subst}
 use Rattle.lk_report.specs.Spoken.{Rose}
-use Rattle.lk_outside.specs.Disk.{Stored}
 use Rattle.lk_commit.specs.CrashStates.{IsFinished, IsStopped, sealed}
 use Rattle.lk_commit.specs.Stages.{IsFileOpened, IsImageWritten, IsSealed, IsUnfinished}
 use Rattle.lk_commit.proofs.Committed.{IsPut, finished, is_put, not_opened, not_put, unfinished}

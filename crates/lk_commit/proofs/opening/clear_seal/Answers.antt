@@ -1,5 +1,5 @@
 -- Zeros are written over the seal, and then that is kept.
-use Rattle.std.proofs.Common.{◌≡◌, ◌≤◌, ◌<◌, ◌+◌, ◌-◌, ◌⊎◌, ◌++◌, ◌∷◌, [], ℕ, List, true, false, length, take, drop, refl, sym, ◌∙◌, ap, subst, inl, inr, arith}
+use Rattle.std.proofs.Common.{◌≡◌}
 use Rattle.lk_outside.specs.Disk.{stored_synced}
 use Rattle.lk_commit.specs.Stages.{IsBroken, IsKept, IsUnbroken}
 use Rattle.lk_commit.proofs.FileOpened.{IsCleared, IsKeptLong, IsKeptSealed, clear_failed, clear_not_synced, clear_synced, seal_cleared}

@@ -1,10 +1,10 @@
 -- The file is cut, zeros are written, and then that is kept.
-use Rattle.std.proofs.Common.{◌≡◌, ◌≤◌, ◌<◌, ◌+◌, ◌-◌, ◌⊎◌, ◌++◌, ◌∷◌, [], ℕ, List, true, false, length, take, drop, refl, sym, ◌∙◌, ap, subst, inl, inr, arith}
+use Rattle.std.proofs.Common.{◌≡◌, [], ◌∙◌, subst}
 use Rattle.lk_report.specs.Spoken.{Rose}
 use Rattle.lk_outside.specs.Disk.{stored_cut, stored_synced}
 use Rattle.lk_commit.specs.Stages.{IsKept, IsLeftShort, IsMadeZeros}
 use Rattle.lk_commit.proofs.FileOpened.{HasBytes, IsKeptShort, short_cut, short_late, short_same, zeros_failed, zeros_not_synced, zeros_synced, zeros_written_by}
-use Rattle.lk_commit.proofs.Reported.{both_known, reported_map, reported_same, reported_then, stage_then, sync_call, write_call, write_refused, cut_refused}
+use Rattle.lk_commit.proofs.Reported.{both_known, reported_map, reported_then, stage_then, sync_call, write_call, write_refused, cut_refused}
 use Rattle.lk_commit.proofs.SealPlaces.{zeros}
 use Rattle.lk_commit.proofs.opening.make_zeros.Goals as goal
 

@@ -1,6 +1,5 @@
 -- The file is kept, and then opened.
-use Rattle.std.proofs.Common.{◌≡◌, ◌≤◌, ◌<◌, ◌+◌, ◌-◌, ◌⊎◌, ◌++◌, ◌∷◌, [], ℕ, List, true, false, length, take, drop, refl, sym, ◌∙◌, ap, subst, inl, inr, arith}
-use Rattle.lk_outside.specs.Disk.{Stored, stored_synced}
+use Rattle.lk_outside.specs.Disk.{stored_synced}
 use Rattle.lk_commit.specs.Stages.{IsFileOpened, IsFileUnopened, IsKeptOpened, IsKeptUnopened}
 use Rattle.lk_commit.proofs.FileOpened.{IsFirstKept, first_kept, first_opened, first_unopened}
 use Rattle.lk_commit.proofs.Reported.{reported_map, stage_then}

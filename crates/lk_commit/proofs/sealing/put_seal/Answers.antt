@@ -1,8 +1,8 @@
 -- The seal is written, and then that is kept.
-use Rattle.std.proofs.Common.{◌≡◌, ◌≤◌, ◌<◌, ◌+◌, ◌-◌, ◌⊎◌, ◌++◌, ◌∷◌, [], ℕ, List, true, false, length, take, drop, refl, sym, ◌∙◌, ap, subst, inl, inr, arith}
+use Rattle.std.proofs.Common.{◌≡◌}
 use Rattle.lk_model.specs.Images.{seal}
 use Rattle.lk_outside.specs.Disk.{stored_synced}
-use Rattle.lk_commit.specs.Stages.{HasNoSeal, IsKept, IsSealed, IsUnfinished}
+use Rattle.lk_commit.specs.Stages.{IsKept, IsSealed, IsUnfinished}
 use Rattle.lk_commit.proofs.Reported.{both_known, stage_then, sync_call, write_done, write_failed}
 use Rattle.lk_commit.proofs.SealWritten.{IsReady, IsSealPut, seal_failed, seal_not_synced, seal_put, seal_synced}
 use Rattle.lk_commit.proofs.sealing.put_seal.Goals as goal

@@ -1,7 +1,6 @@
 -- The three stages one after another.
-use Rattle.std.proofs.Common.{◌≡◌, ◌≤◌, ◌<◌, ◌+◌, ◌-◌, ◌⊎◌, ◌++◌, ◌∷◌, [], ℕ, List, length, take, drop, refl, sym, ◌∙◌, ap, subst, inl, inr, arith}
+use Rattle.std.proofs.Common.{◌<◌, length, sym, ◌∙◌, subst, arith}
 use Rattle.lk_report.specs.Spoken.{Rose}
-use Rattle.lk_outside.specs.Disk.{Stored}
 use Rattle.lk_commit.specs.CrashStates.{BeginInTurn, IsFinished, IsStopped, sealed, updated}
 use Rattle.lk_commit.specs.Stages.{IsFileOpened, IsFileUnopened, IsSealed, IsUnfinished, IsUpdateWritten, StaysOpen}
 use Rattle.lk_commit.proofs.Committed.{IsUpdatePut, is_update_put, not_opened, not_put, update_finished, update_unfinished}

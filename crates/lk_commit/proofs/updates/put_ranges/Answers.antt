@@ -1,7 +1,7 @@
 -- The ranges are written, a longer file cut, and then that is kept.
-use Rattle.std.proofs.Common.{◌≡◌, ◌≤◌, ◌<◌, ◌+◌, ◌-◌, ◌⊎◌, ◌++◌, ◌∷◌, [], ℕ, List, length, take, drop, refl, sym, ◌∙◌, ap, subst, inl, inr, arith}
+use Rattle.std.proofs.Common.{◌≡◌, sym, ◌∙◌, subst}
 use Rattle.lk_report.specs.Spoken.{Rose}
-use Rattle.lk_outside.specs.Disk.{Stored, stored_synced}
+use Rattle.lk_outside.specs.Disk.{stored_synced}
 use Rattle.lk_commit.specs.CrashStates.{updated}
 use Rattle.lk_commit.specs.Stages.{AreWritten, IsUpdateWritten, StaysOpen}
 use Rattle.lk_commit.proofs.ImageWritten.{stays_more}

@@ -1,9 +1,9 @@
 -- The ranges one after another: none, one more, and one that failed.
-use Rattle.std.proofs.Common.{◌≡◌, ◌≤◌, ◌<◌, ◌+◌, ◌-◌, ◌⊎◌, ◌++◌, ◌∷◌, [], ℕ, List, length, take, drop, refl, sym, ◌∙◌, ap, subst, inl, inr, arith}
+use Rattle.std.proofs.Common.{◌≡◌, ◌+◌, ◌∷◌, ℕ, List, drop, refl, sym, ◌∙◌, ap, subst}
 use Rattle.std.proofs.lemmas.List.{drop_more}
 use Rattle.lk_report.specs.Spoken.{Rose}
 use Rattle.lk_report.specs.declared.sinks.Answer.TheVariants as answer
-use Rattle.lk_outside.specs.Disk.{Stored, WriteAtGives}
+use Rattle.lk_outside.specs.Disk.{WriteAtGives}
 use Rattle.lk_commit.specs.CrashStates.{WhereReported}
 use Rattle.lk_commit.specs.Stages.{IsPartUpdated}
 use Rattle.lk_commit.proofs.RangesWritten.{none_written, one_failed, one_written}

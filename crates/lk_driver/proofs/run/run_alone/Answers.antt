@@ -1,5 +1,5 @@
 -- The image was made and committed: what that says of words, answer, output and files.
-use Rattle.std.proofs.Common.{◌≡◌, sym, subst}
+use Rattle.std.proofs.Common.{sym, subst}
 use Rattle.lk_report.specs.declared.statuses.Status.{Status}
 use Rattle.lk_driver.specs.Outer.{DoneLeaves, FilesKept, IsDue, StopLeaves, WordsFirst, words_answer}
 use Rattle.lk_driver.proofs.ImagesCommitted.{done-leaves, files-kept, is-due, stop-leaves, words-first}
