@@ -8,10 +8,11 @@ ghost use Rattle.lk_task_board.specs.Trees.{mark};
 ghost use Rattle.lk_task_board.specs.Tokens as say;
 ghost use Rattle.lk_task_board.specs.Boards.{with_phase};
 
-use crate::beginning::{blockers_of, count_releases, locks_of, mark_ready};
+use crate::beginning::{count_releases, mark_ready};
 use crate::locking::{is_free, lock_task, unlock_task};
 use crate::lookups::{is_running, need_at};
 use crate::releasing::release;
+use crate::token_counts::{blockers_of, locks_of};
 use crate::trees::MarkTree;
 use crate::waiters::{Waiters, link_waiters};
 use lk_report::NoMemory;

@@ -15,8 +15,11 @@ mod board;
 mod locking;
 mod lookups;
 mod releasing;
+mod token_counts;
 mod trees;
 mod waiters;
 
 pub use board::Board;
 pub use lk_task_runs::{Needs, Phase};
+pub use lookups::need_at;
+pub use token_counts::{blockers_of, past_all};

@@ -1,6 +1,6 @@
 use Rattle.std.proofs.Common.{◌≡◌, ℕ, ◌<◌, ◌≤◌, ◌^◌, true}
 use Rattle.lk_task_runs.specs.Phases.{need, is_token}
-use Rattle.lk_task_board.proofs.beginning.blockers_of.Given as goal
+use Rattle.lk_task_board.proofs.token_counts.blockers_of.Given as goal
 
 abbrev pub invariant-loop-task : goal.invariant-loop-task
 invariant-loop-task l = record {

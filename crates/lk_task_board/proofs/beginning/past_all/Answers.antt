@@ -1,8 +1,0 @@
-use Rattle.std.proofs.Common.{◌<◌, ℕ, subst, arith}
-use Rattle.lk_task_board.proofs.Counting.{has_where}
-use Rattle.lk_task_board.proofs.beginning.past_all.Goals as goal
-
-pub returns-clause-past : goal.returns-clause-past
-returns-clause-past c = λ b e.
-    let w = has_where b c.args.tokens.now e in
-    subst (λ (x : ℕ). x < c.loop-token.past) w.2 (c.loop-token.invariant.past_each w.0 (omega (arith, w.1)))
