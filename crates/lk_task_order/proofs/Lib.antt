@@ -1,0 +1,5 @@
+pub mod BlockersReached
+pub mod Listing
+pub mod SlotsSeen
+pub mod BlockersSwept
+pub mod FirstFound
