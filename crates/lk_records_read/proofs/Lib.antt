@@ -3,3 +3,5 @@ pub mod RecordsInRow
 pub mod RecordNumbers
 pub mod NameRows
 pub mod TextsNoted
+pub mod HeadsWalked
+pub mod InputParts

@@ -1,10 +1,10 @@
 -- The numbers of a record by their places in its bytes, and the record that its numbers give.
-use Rattle.std.specs.Prelude.{◌≡◌, ℕ, ◌+◌, ◌<◌, ◌≤◌, List, [], ◌∷◌, length, take, drop, Option, None, Some, Ok, Err, nat_le, if◌then◌else◌}
-use Rattle.std.proofs.Common.{refl, sym, ◌∙◌, ap, arith}
+use Rattle.std.specs.Prelude.{◌≡◌, ℕ, ◌+◌, ◌<◌, ◌≤◌, List, [], ◌∷◌, length, drop, Option, None, Some, Ok, Err, if◌then◌else◌}
+use Rattle.std.proofs.Common.{refl, ◌∙◌, ap}
 use Rattle.std.proofs.lemmas.Bool.{le-leb, lt-leb}
 use Rattle.std.proofs.lemmas.List.{drop-drop}
-use Rattle.lk_elf.specs.Fields.{num, number_of}
-use Rattle.lk_model.specs.RecordForms.{Form, Values, Given, given_row, form_width, record_width, raw_numbers, read_record}
+use Rattle.lk_elf.specs.Fields.{num}
+use Rattle.lk_model.specs.RecordForms.{Form, Values, given_row, form_width, record_width, raw_numbers, read_record}
 use Rattle.lk_records_read.specs.ReadAnswers.{record_in}
 
 -- the numbers of a record that begins at a place

@@ -45,6 +45,12 @@ module _ {X : Type 0} where
   pub many_among : (one : List ℕ → Given X) (n : ℕ) (bytes : List ℕ) → read_among (λ _ b. one b) [] n bytes ≡ read_many one n bytes
   many_among one n bytes = many-behind one [] n bytes ∙ behind-none (read_many one n bytes)
 
+  -- before the first of them
+  pub many_begun : (one : List ℕ → Given X) (before : List X) (n : ℕ) (bytes : List ℕ) → before ≡ [] → read_among (λ _ b. one b) before (n - 0) bytes ≡ read_many one n bytes
+  many_begun one before n bytes e =
+      let all : n - 0 ≡ n = omega arith in
+      ap (λ m. read_among (λ _ b. one b) before m bytes) all ∙ ap (λ (xs : List X). read_among (λ _ b. one b) xs n bytes) e ∙ many_among one n bytes
+
   -- one record more
   pub among_next :
       (one : List X → List ℕ → Given X) (before now : List X) (x : X) (k n : ℕ) (bytes rest : List ℕ)

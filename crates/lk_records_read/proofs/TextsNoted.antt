@@ -2,7 +2,7 @@
 use Rattle.std.specs.Prelude.{◌≡◌, refl, ℕ, ◌+◌, ◌-◌, ◌<◌, ◌≤◌, Bool, true, false, if◌then◌else◌, not, ◌||◌, List, [], ◌∷◌, ◌++◌, bytes_eq, count_by, drop, length, Result, Ok, Err, MatchResult}
 use Rattle.std.specs.Borrow.{Bor}
 use Rattle.std.specs.List.{before_first, list_any}
-use Rattle.std.proofs.Common.{ap, arith, sym, subst, ◌∙◌}
+use Rattle.std.proofs.Common.{ap, sym, subst, ◌∙◌}
 use Rattle.indexmap.specs.IndexSet.{insert_key}
 use Rattle.lk_model.specs.Texts.{with_text}
 use Rattle.lk_model.specs.RecordForms.{Given}
@@ -12,7 +12,7 @@ use Rattle.lk_records_read.specs.DistinctTexts.{IsNoted, TextNoted, texts_in}
 use Rattle.lk_records_read.specs.ReadAnswers.{IsPassed, ReadGives}
 use Rattle.lk_records_read.specs.declared.refusals.Refusal.{Refusal}
 use Rattle.lk_records_read.specs.declared.refusals.Refusal.TheVariants as refusal
-use Rattle.lk_records_read.proofs.RecordsInRow.{among_next, among_refused, among_done, whole_left, whole_read}
+use Rattle.lk_records_read.proofs.RecordsInRow.{among_refused, among_done, whole_left, whole_read}
 
 -- whether two references are to one text
 abbrev same_text : Bor (List ℕ) → Bor (List ℕ) → Bool

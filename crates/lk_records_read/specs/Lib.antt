@@ -1,3 +1,5 @@
 pub mod ReadAnswers
 pub mod NameRecords
 pub mod DistinctTexts
+pub mod CountsRead
+pub mod InputParts

@@ -2,11 +2,15 @@
 //! record, or the first bad place.
 #![tactic(auto)]
 
+mod counts;
 mod cursors;
 mod distinct_texts;
 mod fields;
+mod globals;
+mod groups;
 mod lists;
 mod names;
+mod powers;
 mod refusals;
 mod section_faults;
 mod texts;

@@ -3,7 +3,6 @@ use Rattle.std.specs.Prelude.{Err}
 use Rattle.std.specs.List.{before_first}
 use Rattle.std.proofs.Common.{ap, sym, ◌∙◌}
 use Rattle.std.proofs.lemmas.Result.{err_from_is_err_and}
-use Rattle.lk_model.specs.RecordReaders.{read_among}
 use Rattle.lk_model.specs.TextsReading.{checked_text, is_end}
 use Rattle.lk_records_read.specs.DistinctTexts.{texts_in}
 use Rattle.lk_records_read.proofs.RecordsInRow.{among_next}
