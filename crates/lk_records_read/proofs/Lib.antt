@@ -5,3 +5,7 @@ pub mod NameRows
 pub mod TextsNoted
 pub mod HeadsWalked
 pub mod InputParts
+pub mod RangesRising
+pub mod NotedRanges
+pub mod RowsBeside
+pub mod RowsRead

@@ -51,6 +51,12 @@ module _ {X : Type 0} where
       let all : n - 0 ≡ n = omega arith in
       ap (λ m. read_among (λ _ b. one b) before m bytes) all ∙ ap (λ (xs : List X). read_among (λ _ b. one b) xs n bytes) e ∙ many_among one n bytes
 
+  -- before the first of those that are read beside one another
+  pub among_begun : (one : List X → List ℕ → Given X) (before : List X) (n : ℕ) (bytes : List ℕ) → before ≡ [] → read_among one before (n - 0) bytes ≡ read_among one [] n bytes
+  among_begun one before n bytes e =
+      let all : n - 0 ≡ n = omega arith in
+      ap (λ m. read_among one before m bytes) all ∙ ap (λ (xs : List X). read_among one xs n bytes) e
+
   -- one record more
   pub among_next :
       (one : List X → List ℕ → Given X) (before now : List X) (x : X) (k n : ℕ) (bytes rest : List ℕ)

@@ -3,3 +3,5 @@ pub mod NameRecords
 pub mod DistinctTexts
 pub mod CountsRead
 pub mod InputParts
+pub mod TakenRanges
+pub mod RowsNoted

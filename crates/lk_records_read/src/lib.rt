@@ -12,7 +12,11 @@ mod lists;
 mod names;
 mod powers;
 mod refusals;
+mod rows_noted;
 mod section_faults;
+mod section_keys;
+mod section_rows;
+mod taken_ranges;
 mod texts;
 
 pub use distinct_texts::check_texts;
