@@ -9,3 +9,4 @@ pub mod RangesRising
 pub mod NotedRanges
 pub mod RowsBeside
 pub mod RowsRead
+pub mod HeadsRead

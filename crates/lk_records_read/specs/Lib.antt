@@ -5,3 +5,4 @@ pub mod CountsRead
 pub mod InputParts
 pub mod TakenRanges
 pub mod RowsNoted
+pub mod HeadsRead

@@ -8,6 +8,7 @@ mod distinct_texts;
 mod fields;
 mod globals;
 mod groups;
+mod heads;
 mod lists;
 mod names;
 mod powers;
