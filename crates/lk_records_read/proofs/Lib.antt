@@ -10,3 +10,4 @@ pub mod NotedRanges
 pub mod RowsBeside
 pub mod RowsRead
 pub mod HeadsRead
+pub mod PlacesBeside

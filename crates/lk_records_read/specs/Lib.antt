@@ -6,3 +6,4 @@ pub mod InputParts
 pub mod TakenRanges
 pub mod RowsNoted
 pub mod HeadsRead
+pub mod PlacesNoted

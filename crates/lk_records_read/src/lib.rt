@@ -11,6 +11,7 @@ mod groups;
 mod heads;
 mod lists;
 mod names;
+mod places;
 mod powers;
 mod refusals;
 mod rows_noted;
