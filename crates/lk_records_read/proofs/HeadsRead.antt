@@ -1,5 +1,5 @@
 -- The heads of the section of inputs, by what is read of their records.
-use Rattle.std.specs.Prelude.{◌≡◌, refl, ℕ, ◌<◌, ◌≤◌, List, [], ◌∷◌, length, drop, Option, None, Some, Ok, Err}
+use Rattle.std.specs.Prelude.{◌≡◌, refl, ℕ, ◌<◌, ◌≤◌, List, [], ◌∷◌, length, drop, None, Some, Ok, Err}
 use Rattle.std.specs.Option.{option_and_then}
 use Rattle.std.proofs.Common.{ap, sym, ◌∙◌}
 use Rattle.lk_elf.specs.Fields.{num}

@@ -1,5 +1,5 @@
 -- A piece beside those that are placed before it, by the bytes that are taken of output sections.
-use Rattle.std.specs.Prelude.{◌≡◌, refl, ℕ, ◌+◌, ◌*◌, ◌<◌, ◌≤◌, ◌==◌, ◌&&◌, ◌||◌, ◌⊎◌, not, Bool, true, false, List, [], ◌∷◌, ◌++◌, nat_le, slice_get, Result, Ok, Err}
+use Rattle.std.specs.Prelude.{◌≡◌, refl, ℕ, ◌+◌, ◌*◌, ◌<◌, ◌≤◌, ◌==◌, ◌&&◌, ◌||◌, ◌⊎◌, not, Bool, true, false, List, nat_le, slice_get, Result, Ok, Err}
 use Rattle.std.specs.List.{list_all}
 use Rattle.std.proofs.Common.{ap, arith, inl, inr, sym, ◌∙◌}
 use Rattle.std.proofs.lemmas.Bool.{le-leb}
@@ -11,7 +11,6 @@ use Rattle.lk_model.specs.declared.layouts.PieceRow.{PieceRow}
 use Rattle.lk_model.specs.declared.layouts.SectionRow.{SectionRow}
 use Rattle.lk_report.specs.declared.memory.NoMemory.{NoMemory}
 use Rattle.lk_records_read.specs.PlacesNoted.{ArePlacesNoted, PlaceNoted, PlaceTaken, ends_in_line, line_at, piece_size, place_start, stride}
-use Rattle.lk_records_read.specs.TakenRanges.{TakeAnswers}
 use Rattle.lk_records_read.proofs.NotedRanges.{noted_taken, or_true}
 
 -- ---- two pieces on the line of all bytes

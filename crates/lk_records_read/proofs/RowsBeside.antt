@@ -2,15 +2,15 @@
 use Rattle.std.specs.Prelude.{◌≡◌, refl, ℕ, ◌&&◌, ◌||◌, not, Bool, true, false, List, [], ◌∷◌, ◌++◌, map, Result, Ok, Err}
 use Rattle.std.specs.List.{list_all, list_any}
 use Rattle.std.proofs.Common.{ap, sym, subst, ◌∙◌}
-use Rattle.lk_model.specs.Lawful.{addresses_apart, offsets_apart, share_nothing}
-use Rattle.lk_model.specs.RecordRefusals.{has_own_addresses, is_good_row, row_is_beside, share_no_address, share_no_file_byte}
+use Rattle.lk_model.specs.Lawful.{share_nothing}
+use Rattle.lk_model.specs.RecordRefusals.{has_own_addresses, row_is_beside, share_no_address, share_no_file_byte}
 use Rattle.lk_model.specs.SectionKeys.{in_file, same_key}
 use Rattle.lk_model.specs.declared.layouts.SectionKey.{SectionKey}
 use Rattle.lk_model.specs.declared.layouts.SectionRow.{SectionRow}
 use Rattle.lk_report.specs.declared.memory.NoMemory.{NoMemory}
 use Rattle.lk_records_read.specs.RowsNoted.{AreRowsNoted, IsKeyNoted, RowNoted, addr_of, is_in_file, key_of, offset_of, room_of}
-use Rattle.lk_records_read.specs.TakenRanges.{AreNoted, CountedAnswers, are_free}
-use Rattle.lk_records_read.proofs.NotedRanges.{all_true, all_weaker, and_both, and_first, and_second, not_all, noted_none, noted_same, noted_taken, or_true}
+use Rattle.lk_records_read.specs.TakenRanges.{AreNoted, CountedAnswers}
+use Rattle.lk_records_read.proofs.NotedRanges.{all_true, and_both, and_first, and_second, not_all, noted_none, noted_same, noted_taken, or_true}
 
 pub none_noted : AreRowsNoted [] [] [] []
 none_noted = (

@@ -1,6 +1,6 @@
 -- Where pieces are placed (this project's own), by the bytes of output sections that they take. The bytes of all
 -- output sections are on one line: each section has 2^66 numbers of its own.
-use Rattle.std.specs.Prelude.{◌≡◌, ℕ, ◌+◌, ◌*◌, ◌^◌, Bool, true, false, List, [], ◌∷◌, ◌++◌, nat_le, Result, Ok, Err, ⊤}
+use Rattle.std.specs.Prelude.{◌≡◌, ℕ, ◌+◌, ◌*◌, Bool, true, false, List, [], ◌∷◌, ◌++◌, nat_le, Result, Ok, Err, ⊤}
 use Rattle.lk_model.specs.Lawful.{pieces_apart}
 use Rattle.lk_model.specs.RecordRefusals.{is_good_place}
 use Rattle.lk_model.specs.declared.layouts.PieceRow.{PieceRow}

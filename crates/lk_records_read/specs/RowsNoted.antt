@@ -1,5 +1,5 @@
 -- Output sections that are read, by what no two of them share (this project's own; gABI "Sections").
-use Rattle.std.specs.Prelude.{◌≡◌, ℕ, ◌&&◌, not, Bool, true, false, List, [], ◌∷◌, ◌++◌, map, nat_le, Option, None, Some, Result, Ok, Err, ⊤}
+use Rattle.std.specs.Prelude.{◌≡◌, ℕ, ◌&&◌, not, Bool, true, false, List, [], ◌∷◌, ◌++◌, map, nat_le, Option, Result, Ok, Err, ⊤}
 use Rattle.std.specs.Cmp.{IsEquivalence, and_equiv, nat_eq_equiv, on_equiv}
 use Rattle.std.specs.Cmp.Lexicographic.{nat_list_eq_equiv}
 use Rattle.std.specs.List.{list_all, list_any}
@@ -13,7 +13,7 @@ use Rattle.lk_model.specs.Texts.{text_at}
 use Rattle.lk_model.specs.declared.layouts.SectionKey.{SectionKey}
 use Rattle.lk_model.specs.declared.layouts.SectionRow.{SectionRow}
 use Rattle.lk_report.specs.declared.memory.NoMemory.{NoMemory}
-use Rattle.lk_records_read.specs.ReadAnswers.{ReadGives, record_in}
+use Rattle.lk_records_read.specs.ReadAnswers.{record_in}
 use Rattle.lk_records_read.specs.TakenRanges.{AreNoted}
 use Rattle.lk_records_read.specs.declared.refusals.Refusal.{Refusal}
 

@@ -1,8 +1,7 @@
 -- A row's record, and whether the row may follow those before it.
-use Rattle.std.specs.Prelude.{◌≡◌, ℕ, List, length, Bool, false, true, None, Option, Some, Result, Ok, Err}
+use Rattle.std.specs.Prelude.{◌≡◌, ℕ, List, length, false, true, None, Some, Ok, Err}
 use Rattle.std.proofs.Common.{ap, rules, subst, sym, ◌∙◌}
 use Rattle.std.proofs.lemmas.Result.{err_from_is_err_and}
-use Rattle.lk_report.specs.declared.memory.NoMemory.{NoMemory}
 use Rattle.lk_records_read.specs.ReadAnswers.{ReadGives}
 use Rattle.lk_records_read.specs.RowsNoted.{RowPassed, RowRead, read_row, row_in}
 use Rattle.lk_records_read.proofs.RowsRead.{row_bad, row_good, row_refused, row_short}
