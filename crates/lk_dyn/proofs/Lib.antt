@@ -8,3 +8,4 @@ pub mod StartFilled
 pub mod GotFilled
 pub mod NamesDefined
 pub mod EntriesPut
+pub mod RelocationsFound

@@ -55,15 +55,15 @@ item_step f xs out new whole n x below at put before =
 
 -- by the item alone
 pub listed_step :
-    {A : Type 0} (f : A → List ℕ) (d : A) (xs : List A) (out new whole : List ℕ) (n : ℕ) (x : A)
+    {A B : Type 0} (f : A → List B) (d : A) (xs : List A) (out new whole : List B) (n : ℕ) (x : A)
     → n < length xs
     → x ≡ get_or xs n d
     → new ≡ out ++ f x
     → out ++ flat_map f (drop n xs) ≡ whole
     → new ++ flat_map f (drop (n + 1) xs) ≡ whole
-listed_step {A} f d xs out new whole n x below at put before =
+listed_step {A} {B} f d xs out new whole n x below at put before =
     let y : A = get_or xs n d in
-    let rest : List ℕ = flat_map f (drop (n + 1) xs) in
+    let rest : List B = flat_map f (drop (n + 1) xs) in
     let next : drop n xs ≡ y ∷ drop (n + 1) xs = drop-cons xs n d below ∙ ap (λ m. y ∷ drop m xs) (sym (add-one n)) in
     ap (λ l. l ++ rest) (put ∙ ap (λ z. out ++ f z) at)
     ∙ append_assoc out (f y) rest
@@ -72,7 +72,7 @@ listed_step {A} f d xs out new whole n x below at put before =
 
 -- once all are put
 pub listed_end :
-    {A : Type 0} (f : A → List ℕ) (xs : List A) (out whole : List ℕ) (n : ℕ)
+    {A B : Type 0} (f : A → List B) (xs : List A) (out whole : List B) (n : ℕ)
     → length xs ≤ n
     → out ++ flat_map f (drop n xs) ≡ whole
     → out ≡ whole

@@ -6,5 +6,6 @@ pub mod DynamicEntries
 pub mod JumpSlots
 pub mod HashLookUps
 pub mod CallLaws
+pub mod RelocationLaws
 pub mod StartRelocations
 pub mod LocalSlots

@@ -2,6 +2,7 @@
 
 ghost use Rattle.lk_dyn.specs.CallLaws.{JumpsBySlot, SlotPointsBack};
 ghost use Rattle.lk_dyn.specs.HashLookUps.{FindsEachName, WordsAreATable};
+ghost use Rattle.lk_dyn.specs.RelocationLaws.{FillsCopies, FillsEachImport, FillsJumpSlots, FillsNoMore, FillsSlots};
 
 /// In `.hash` the look-up of the gABI ("Hash Table") finds each dynamic name, and no name that is not one.
 pub fn look_ups_find_each_name()
@@ -14,4 +15,15 @@ pub fn look_ups_find_each_name()
 pub fn entries_jump_by_their_slots()
     ensures jump { JumpsBySlot }
     ensures back { SlotPointsBack }
+{}
+
+/// Each relocation that the dynamic linker does fills a slot or a copy by the name that this is of (gABI "Relocation";
+/// psABI x86-64 "Relocation Types"): the slot of an entry of `.plt`, a slot of `.got`, the copy of an import. The tables
+/// have no other relocation, and none of these is left out.
+pub fn relocations_name_what_they_fill()
+    ensures jump_slots { FillsJumpSlots }
+    ensures slots { FillsSlots }
+    ensures each_import { FillsEachImport }
+    ensures copies { FillsCopies }
+    ensures no_more { FillsNoMore }
 {}
